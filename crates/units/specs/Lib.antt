@@ -1,0 +1,2 @@
+pub mod Surrogates
+pub mod Kinds
