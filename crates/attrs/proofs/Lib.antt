@@ -1,0 +1,10 @@
+pub mod Bits
+pub mod Looks
+pub mod Says
+pub mod Keys
+pub mod Slots
+pub mod Tests
+pub mod Stores
+pub mod Changes
+pub mod Walk
+pub mod Force
