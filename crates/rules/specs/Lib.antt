@@ -1,0 +1,17 @@
+pub mod Sheet
+pub mod Reading
+pub mod Places
+pub mod Edits
+pub mod Delta
+pub mod Event
+pub mod Runs
+pub mod Sound
+pub mod Calls
+pub mod Rulings
+pub mod Counts
+pub mod Shows
+pub mod Scripts
+pub mod Shown
+pub mod PieceParts
+pub mod Turns
+pub mod Pieces
