@@ -1,0 +1,10 @@
+pub mod Words
+pub mod Links
+pub mod Writes
+pub mod Numbers
+pub mod Soundness
+pub mod Stored
+pub mod Models
+pub mod Sweeps
+pub mod Carries
+pub mod Showing

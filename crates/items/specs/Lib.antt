@@ -1,0 +1,5 @@
+pub mod Word
+pub mod Chain
+pub mod Heads
+pub mod Memory
+pub mod Calls

@@ -1,0 +1,122 @@
+// Whether a lent sheet is sound.
+use crate::head::Head;
+use crate::word::Content;
+use crate::word::in_range;
+use crate::word::unpack;
+ghost use mathlib.Core.Path.{_≡_};
+ghost use Prim.Native.Nat.{_≤_};
+ghost use lib.ListN.{length};
+ghost use Rattle.rules.specs.Sheet.{text};
+ghost use Rattle.items.specs.Word.{whatOf};
+ghost use Rattle.items.specs.Memory.{flagsOk, lenOf, whatOk, wordOk, soundOf};
+
+fn flags_ok(dead: bool, added: bool, gone: bool) -> bool
+    ensures { λ r. ⌜ r ≡ flagsOk dead added gone ⌝ }
+{
+    if dead {
+        return gone || !added;
+    }
+    !gone
+}
+
+fn piece_ok(start: u32, len: u32, units: &[u16], used: u32) -> bool
+    requires { ⌜ used ≤ length (now units) ⌝ }
+    ensures { λ r. ⌜ r ≡ whatOk (now (units .entry)) used (text start len) ⌝ }
+{
+    if len == 0 {
+        return false;
+    }
+    if start as u64 + len as u64 > used as u64 {
+        return false;
+    }
+    let a = start as usize;
+    let e = a + len as usize;
+    units::is_whole(&units[a..e])
+}
+
+fn content_ok(c: Content, units: &[u16], used: u32) -> bool
+    requires { ⌜ used ≤ length (now units) ⌝ }
+    ensures { λ r. ⌜ r ≡ whatOk (now (units .entry)) used (whatOf c) ⌝ }
+{
+    match c {
+        Content::Text { start, len } => piece_ok(start, len, units, used),
+        Content::Embed(_) => true,
+        Content::Mark { key, value } => {
+            if key < 16 {
+                return value < 256;
+            }
+            false
+        }
+    }
+}
+
+fn word_ok(w: u64, units: &[u16], used: u32) -> bool
+    requires { ⌜ used ≤ length (now units) ⌝ }
+    ensures { λ r. ⌜ r ≡ wordOk (now (units .entry)) used w ⌝ }
+{
+    if !in_range(w) {
+        return false;
+    }
+    let it = unpack(w);
+    if !flags_ok(it.dead, it.added, it.gone) {
+        return false;
+    }
+    let c = it.content;
+    content_ok(c, units, used)
+}
+
+fn text_len(c: Content) -> u32
+    ensures { λ r. ⌜ r ≡ lenOf (whatOf c) ⌝ }
+{
+    match c {
+        Content::Text { start: _, len } => len,
+        Content::Embed(_) => 0,
+        Content::Mark { key: _, value: _ } => 0,
+    }
+}
+
+// One walk by the links. It stops where the texts so far are longer than all of them may be, so that no unit is read more than
+// twice, however the pieces overlap.
+pub fn sound(h: Head, items: &[u64], units: &[u16]) -> bool
+    ensures { λ r. ⌜ r ≡ soundOf h (now (items .entry)) (now (units .entry)) ⌝ }
+{
+    let n = h.items;
+    let used = h.units;
+    if items.len() != 2048 {
+        return false;
+    }
+    if units.len() != 16384 {
+        return false;
+    }
+    if n > Head::ITEMS {
+        return false;
+    }
+    if used > Head::UNITS {
+        return false;
+    }
+    let mut at = h.first;
+    let mut k = n;
+    let mut sum = 0;
+    while k > 0 {
+        if at >= n {
+            return false;
+        }
+        let i = at as usize;
+        let w = items[i];
+        if !word_ok(w, units, used) {
+            return false;
+        }
+        let it = unpack(w);
+        let c = it.content;
+        sum += text_len(c);
+        if sum > used {
+            return false;
+        }
+        at = it.next;
+        k -= 1;
+    }
+    if at != Head::END {
+        return false;
+    }
+    sum == used
+}
