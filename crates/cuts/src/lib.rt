@@ -1,0 +1,64 @@
+// Whether an index into the visible text falls inside a surrogate pair. Pieces hold no half pairs, so one piece decides.
+ghost use mathlib.Core.Path.{_≡_};
+ghost use lib.ListN.{length};
+ghost use Rattle.units.specs.Surrogates.{splitsPair};
+ghost use Rattle.rules.specs.Calls.{visibleUnits};
+ghost use Rattle.items.specs.Word.{whatOf};
+ghost use Rattle.items.specs.Memory.{listOf};
+ghost use Rattle.cuts.specs.Cuts.{usedBy, cutsPiece, Lies, Readable};
+use items::head::Head;
+use items::word::Content;
+use items::word::Item;
+use items::word::unpack;
+
+pub fn used_by(it: Item) -> u32
+    ensures { λ r. ⌜ r ≡ usedBy (it .dead) (it .content) ⌝ }
+{
+    if it.dead {
+        return 0;
+    }
+    let c = it.content;
+    match c {
+        Content::Text { start: _, len } => len,
+        Content::Embed(_) => 1,
+        Content::Mark { key: _, value: _ } => 0,
+    }
+}
+
+fn cuts_piece(c: Content, used: &[u16], index: u32) -> bool
+    requires { ⌜ Lies (length (now used)) (whatOf c) ⌝ }
+    ensures { λ r. ⌜ r ≡ cutsPiece (now (used .entry)) (whatOf c) index ⌝ }
+{
+    match c {
+        Content::Text { start, len } => {
+            let a = start as usize;
+            let e = a + len as usize;
+            units::splits_pair(&used[a..e], index)
+        }
+        Content::Embed(_) => false,
+        Content::Mark { key: _, value: _ } => false,
+    }
+}
+
+// `used` are the units in use. The index is of 64 bits, so that an index and a length add up exactly.
+pub fn cuts_pair(h: Head, items: &[u64], used: &[u16], index: u64) -> bool
+    requires { ⌜ Readable h (now items) (now used) ⌝ }
+    ensures { λ r. ⌜ r ≡ splitsPair (visibleUnits (now (used .entry)) (listOf h (now (items .entry)))) index ⌝ }
+{
+    let mut k = h.items;
+    let mut at = h.first;
+    let mut rest = index;
+    while k > 0 {
+        let i = at as usize;
+        let it = unpack(items[i]);
+        let w = used_by(it) as u64;
+        if rest < w {
+            let c = it.content;
+            return cuts_piece(c, used, rest as u32);
+        }
+        rest -= w;
+        at = it.next;
+        k -= 1;
+    }
+    false
+}
