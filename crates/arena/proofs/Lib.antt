@@ -1,0 +1,11 @@
+pub mod Carried
+pub mod Copied
+pub mod Cuts
+pub mod Finds
+pub mod Forces
+pub mod Kills
+pub mod Neat
+pub mod Puts
+pub mod Standing
+pub mod Steps
+pub mod Walks

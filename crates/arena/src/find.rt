@@ -1,0 +1,64 @@
+// The place at an index.
+ghost use mathlib.Core.Path.{_≡_};
+ghost use mathlib.Core.Bool.{cond};
+ghost use Prim.Native.Nat.{_<_};
+ghost use Rattle.rules.specs.Sheet.{width};
+ghost use Rattle.items.specs.Word.{whatOf};
+ghost use Rattle.arena.specs.Places.{SIZE, Arena, Carried, startOf, placing};
+use crate::At;
+use crate::Place;
+use crate::forward;
+use crate::writes::split;
+use items::head::Head;
+use items::word::Content;
+use items::word::Item;
+use items::word::unpack;
+
+// How many units long.
+pub fn width(c: Content) -> u32
+    ensures { λ r. ⌜ r ≡ width (whatOf c) ⌝ }
+{
+    match c {
+        Content::Text { start: _, len } => len,
+        Content::Embed(_) => 1,
+        Content::Mark { key: _, value: _ } => 0,
+    }
+}
+
+// What an item uses of an index: only live ones do.
+pub fn uses(it: Item) -> u32
+    ensures { λ r. ⌜ r ≡ cond (it .dead) 0 (width (whatOf (it .content))) ⌝ }
+{
+    if it.dead {
+        return 0;
+    }
+    let c = it.content;
+    width(c)
+}
+
+// The place at an index, from the first item on. A text that the index ends in is split there.
+pub fn find_position(h: Head, items: &mut [u64], index: u32) -> At
+    requires { ⌜ Arena h (now items) × (h .items < SIZE) ⌝ }
+    ensures { λ r. ⌜ Carried (placing index) h (now (items .entry)) (startOf h) (r .head) (now (items .exit)) (r .place) ⌝ }
+{
+    let mut p = Place::start(h);
+    let mut rest = index;
+    while p.todo > 0 {
+        if rest == 0 {
+            return At { head: h, place: p };
+        }
+        let i = p.right as usize;
+        let it = unpack(items[i]);
+        let w = uses(it);
+        if rest < w {
+            let cut = split(h, items, p, rest);
+            let head = cut.head;
+            let left = cut.place;
+            let place = forward(items, left);
+            return At { head, place };
+        }
+        rest -= w;
+        p = forward(items, p);
+    }
+    At { head: h, place: p }
+}
