@@ -1,6 +1,6 @@
 -- What the bits of a mask tell of what its set says: at one key, and along a walk.
 use mathlib.Core.Path.{_≡_, refl, sym, ap, _∙_}
-use mathlib.Core.Bool.{Bool, true, false, cond, not}
+use mathlib.Core.Bool.{Bool, true, false, cond, not, true≢false}
 use mathlib.Core.List.{List, _∷_}
 use Prim.Native.Nat.{ℕ, _-_, _^_, _≤_, _<_}
 use native.Mathlib.Omega.{arith}
@@ -10,7 +10,7 @@ use lib.ListN.{getD}
 use borrow.Author.Tests.{eqb-true, eqb-false}
 use Rattle.attrs.specs.declared.Attrs.{Attrs}
 use Rattle.attrs.specs.declared.Key.the-variants.{At}
-use Rattle.attrs.specs.Sets.{Slot, absent, is, keys, isAbsent, lay, present}
+use Rattle.attrs.specs.Sets.{Slot, absent, is, keys, isAbsent, lay, slotIs, present}
 use Rattle.attrs.specs.Bits.{bit, keysOf, firstKey, restOf, Rest}
 use Rattle.attrs.specs.Packed.{Held, hidden, holds, look, seen, flag, says, envOf}
 use Rattle.attrs.proofs.Bits.{bit-lt, bit-clear-same, bit-clear-other, low}
@@ -54,6 +54,22 @@ module _ (a : Attrs) (k : ℕ) where
       go : (h : Held) → not (isAbsent (seen h)) ≡ eqb (flag h) 1
       go (hidden v) = refl
       go (holds v) = refl
+
+  -- a key that is there agrees with its value, one that is not with none
+  pub agrees-there : (v : ℕ) → not (isAbsent (says a k)) ≡ true → eqb (envOf a k) v ≡ slotIs (says a k) v
+  unfolding envOf
+  agrees-there v e = go (says a k) e
+    where
+      go : (s : Slot) → not (isAbsent s) ≡ true → eqb (lay s 0) v ≡ slotIs s v
+      go absent q = absurd (true≢false (sym q))
+      go (is w) q = refl
+
+  pub agrees-not : (v : ℕ) → not (isAbsent (says a k)) ≡ false → false ≡ slotIs (says a k) v
+  agrees-not v e = go (says a k) e
+    where
+      go : (s : Slot) → not (isAbsent s) ≡ false → false ≡ slotIs s v
+      go absent q = refl
+      go (is w) q = absurd (true≢false q)
 
 -- ---- a walk over the keys of a set, lowest first
 

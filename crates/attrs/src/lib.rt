@@ -3,7 +3,7 @@ ghost use mathlib.Core.Path.{_≡_};
 ghost use mathlib.Core.Bool.{not};
 ghost use Prim.Native.Nat.{_<_, _^_};
 ghost use lib.ListN.{length};
-ghost use Rattle.attrs.specs.Sets.{absent, is, empty, keys, at, isAbsent, bare, opened, former, completed, sameSets, present};
+ghost use Rattle.attrs.specs.Sets.{absent, is, empty, keys, at, isAbsent, bare, slotIs, opened, former, completed, sameSets, present};
 ghost use Rattle.attrs.specs.Bits.{keysOf, firstKey, Rest, BitIs, BitSet};
 ghost use Rattle.attrs.specs.Packed.{says, envOf, packed, onto, withAt, updateAt, changed, Got};
 
@@ -110,6 +110,16 @@ impl Attrs {
         }
         let i = key as usize;
         wide(self.values[i])
+    }
+
+    // Does the set hold just this value, null counted as one?
+    pub fn agrees(self, key: u32, value: u32) -> bool
+        ensures { λ r. ⌜ r ≡ slotIs (says self key) value ⌝ }
+    {
+        if self.has(key) {
+            return self.get(key) == value;
+        }
+        false
     }
 
     fn put(self, key: u32, value: u32) -> Attrs

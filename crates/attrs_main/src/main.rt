@@ -58,6 +58,8 @@ fn nulls() {
     check::expect(!u.has(0));
     let w = n.without(16);
     check::expect(w.same(n));
+    check::expect(n.agrees(0, 0));
+    check::expect(!n.agrees(1, 0));
 }
 
 fn all_keys() {

@@ -7,7 +7,7 @@ use lib.Dec.{eqb}
 use lib.ListN.{length}
 use Rattle.attrs.specs.declared.Attrs.{Attrs}
 use Rattle.attrs.specs.declared.Took.{Took}
-use Rattle.attrs.specs.Sets.{absent, empty, at, keys, isAbsent, completed, sameSets, present}
+use Rattle.attrs.specs.Sets.{absent, empty, at, keys, isAbsent, slotIs, completed, sameSets, present}
 use Rattle.attrs.specs.Bits.{bit}
 use Rattle.attrs.specs.Packed.{look, says, envOf, make, maskOf, valuesOf, packed, onto, withAt, updateAt}
 use Rattle.attrs_main.proofs.nulls.Statement.{statement}
@@ -102,6 +102,20 @@ expect-requires-7 c κs =
     let w = c .before .without .ensures ∙ ap (λ (n : Attrs). onto n (at 16 absent (says n))) n in
     c .same .ensures ∙ ap₂ (λ (x y : Attrs). sameSets keys (says x) (says y)) w n
 
+agrees-requires : tie.Need-agrees-requires
+agrees-requires c κs = search needs
+
+expect-requires-8 : tie.Need-expect-requires-8
+unfolding look bit make maskOf valuesOf packed onto says
+expect-requires-8 c κs = c .agrees .ensures ∙ ap (λ (n : Attrs). slotIs (says n 0) 0) (n-is (c .before .before .before .before .before .before .before .before .before .before .before .before .before .before .before .before .before .before .before .before))
+
+agrees-requires-2 : tie.Need-agrees-requires-2
+agrees-requires-2 c κs = search needs
+
+expect-requires-9 : tie.Need-expect-requires-9
+unfolding look bit make maskOf valuesOf packed onto says
+expect-requires-9 c κs = ap not (c .agrees2 .ensures ∙ ap (λ (n : Attrs). slotIs (says n 1) 0) (n-is (c .before .before .before .before .before .before .before .before .before .before .before .before .before .before .before .before .before .before .before .before .before .before)))
+
 returns : tie.Need-returns
 returns c = search needs
 
@@ -129,4 +143,8 @@ nulls-spec =
     without-requires
     same-requires
     expect-requires-7
+    agrees-requires
+    expect-requires-8
+    agrees-requires-2
+    expect-requires-9
     returns)
