@@ -1,24 +1,23 @@
 -- The ways of a call, and that it leaves a sound sheet. Assumes nothing.
-use Prim.Native.Nat.{ℕ, _+_, _<_, _≤_}
+use Prim.Native.Nat.{ℕ, _≤_}
 use native.Mathlib.Omega.{arith}
-use mathlib.Core.Path.{_≡_, refl, sym, ap, ap₂, _∙_}
-use mathlib.Core.Bool.{Bool, true, false, cond, true≢false}
-use mathlib.Core.List.{List, [], _∷_, _++_}
-use lib.ListN.{length, take, drop}
+use mathlib.Core.Path.{_≡_, refl, sym, ap, _∙_}
+use mathlib.Core.Bool.{Bool, true, false, true≢false}
+use mathlib.Core.List.{List, [], _∷_}
+use lib.ListN.{length, take}
 use lib.Dec.{eqb}
 use borrow.Author.Tests.{eq-eqb, ne-eqb, eqb-true}
-use Rattle.rules.specs.Sheet.{Item, rested, begin}
-use Rattle.rules.specs.Calls.{Sheet, Outcome, Call, beginNow, call}
+use Rattle.rules.specs.Sheet.{Item, begin}
+use Rattle.rules.specs.Calls.{Sheet, Outcome, beginNow, call}
 use Rattle.rules.specs.Rulings.{SoundSheet}
 use Rattle.rules.proofs.Calls.{call-sound}
 use Rattle.items.specs.declared.head.Head.{Head}
-use Rattle.items.specs.declared.calls.Answer.{Answer}
-use Rattle.items.specs.Chain.{headOr, chain}
+use Rattle.items.specs.Chain.{headOr}
 use Rattle.items.specs.Heads.{grownHead}
-use Rattle.items.specs.Memory.{listOf, modelOf, soundOf, Sound, stored, storedUnits, Carried, keptAll, storedAll, landed, carryBy, carry}
+use Rattle.items.specs.Memory.{listOf, modelOf, soundOf, Sound, keptAll, storedAll, carryBy, carry}
 use Rattle.items.specs.Calls.{answerOf, restWord, sweepTo}
 use Rattle.items.proofs.Soundness.{sound-parts, sound-whole}
-use Rattle.items.proofs.Models.{used-length, model-sound, sound-first, sound-head, stored-sound, stored-model}
+use Rattle.items.proofs.Models.{used-length, model-sound, sound-head, stored-sound, stored-model}
 use Rattle.items.proofs.Sweeps.{begin-stored}
 
 -- ---- the three ways

@@ -4,6 +4,7 @@ pub mod Writes
 pub mod Numbers
 pub mod Soundness
 pub mod Stored
+pub mod Copies
 pub mod Models
 pub mod Sweeps
 pub mod Carries

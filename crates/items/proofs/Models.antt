@@ -1,28 +1,29 @@
 -- A sound sheet in its buffers and a sound sheet of the rules: each from the other. Assumes nothing.
-use Prim.Native.Nat.{ℕ, zero, suc, _+_, _-_, _/_, _%_, _<_, _≤_}
+use Prim.Native.Nat.{ℕ, zero, suc, _+_, _<_, _≤_}
 use native.Mathlib.Omega.{arith}
 use mathlib.Core.Path.{_≡_, refl, sym, ap, ap₂, _∙_}
-use mathlib.Core.Bool.{Bool, true, false, cond, _&&_}
+use mathlib.Core.Bool.{true}
 use mathlib.Core.List.{List, [], _∷_, _++_}
-use lib.ListN.{length, getD, set, take, drop, length-append, length-drop, take-append-drop}
+use lib.ListN.{length, getD, take, drop, length-append, length-drop, take-append-drop}
 use lib.Seq.{length-take-le, take-append-seam, take-append-le, drop-append-le}
-use lib.Dec.{eqb, ltb, leb}
-use borrow.Author.Tests.{lt-ltb, le-leb}
+use lib.Dec.{ltb}
+use borrow.Author.Tests.{lt-ltb}
 use Rattle.units.specs.Surrogates.{paired}
 use Rattle.units.proofs.Halves.{both}
 use Rattle.rules.specs.Sheet.{What, text, embed, mark, Item}
-use Rattle.rules.specs.Sound.{honest, Fits, AllFit, held, SoundList}
-use Rattle.rules.specs.Calls.{Sheet, Paired, PairedWhat, AllPaired}
+use Rattle.rules.specs.Sound.{Fits, AllFit, held}
+use Rattle.rules.specs.Calls.{Sheet, PairedWhat, AllPaired}
 use Rattle.rules.specs.Rulings.{InWord, AllInWord, Within, SoundSheet}
 use Rattle.items.specs.declared.head.Head.{Head}
 use Rattle.items.specs.Word.{inRange}
-use Rattle.items.specs.Chain.{END, itemFrom, itemAt, nextAt, chain, walks, headOr}
+use Rattle.items.specs.Chain.{END, itemAt, nextAt, chain, headOr}
 use Rattle.items.specs.Heads.{grownHead}
-use Rattle.items.specs.Memory.{listOf, modelOf, whatOk, wordOk, eachOk, soundOf, Sound, wordOf, stored, storedUnits}
-use Rattle.items.proofs.Links.{walks-parts, distinct, head-is, length-chain}
-use Rattle.items.proofs.Numbers.{AllBelow, Once, below-yes, once, once-parts, walk-below}
+use Rattle.items.specs.Memory.{listOf, modelOf, whatOk, wordOk, eachOk, soundOf, Sound, stored, storedUnits}
+use Rattle.items.proofs.Links.{head-is, length-chain}
+use Rattle.items.proofs.Numbers.{Once, below-yes, once, once-parts}
 use Rattle.items.proofs.Soundness.{piece-in, piece-parts, mark-parts, word-on, word-parts, sound-parts, sound-whole}
-use Rattle.items.proofs.Stored.{Holds, AllHold, word-item, chain-holds, each-parts, each-more, each-at, length-stored, Lying, stored-same, stored-lies}
+use Rattle.items.proofs.Copies.{walk-once}
+use Rattle.items.proofs.Stored.{Holds, AllHold, chain-holds, each-parts, each-more, each-at, length-stored, Lying, stored-same, stored-lies}
 
 -- ---- from the buffers to the rules
 -- a piece that lies in a front part of the units is a piece of that part
@@ -77,7 +78,7 @@ module _ (h : Head) (m u : List ℕ) (ok : Sound h m u) where
 
   -- every number below the next one is met once
   pub sound-once : Once (listOf h m) (h .items)
-  sound-once = once (h .items) (listOf h m) (distinct (h .items) m few (h .items) (h .first) (ok .walk)) (walk-below (h .items) (h .items) m (h .first) (ok .walk)) (length-chain (h .items) m (h .first))
+  sound-once = walk-once (h .items) m (h .first) few (ok .walk)
 
   -- The sheet that lies in sound buffers is sound by the rules.
   pub model-sound : SoundSheet (modelOf h m u)
@@ -146,8 +147,8 @@ chain-ok us v (suc f) m s e a p =
 
 -- A sound sheet of the rules, within the limits, stored into buffers of the full size.
 module _ (s : Sheet) (h : Head) (m u : List ℕ) (ok : SoundSheet s) (words : length m ≡ 2048) (room : length u ≡ 16384) where
-  few₁ : s .next ≤ 2048
-  few₁ = omega (arith, ok .list .count, ok .within .items)
+  fewer : s .next ≤ 2048
+  fewer = omega (arith, ok .list .count, ok .within .items)
 
   head : Head
   head = grownHead h (headOr (s .items)) (s .next) (length (s .units))
@@ -155,7 +156,7 @@ module _ (s : Sheet) (h : Head) (m u : List ℕ) (ok : SoundSheet s) (words : le
   lies : Lying (s .next) (s .items) (stored (s .items) m)
   lies =
       let o = once-parts (s .items) (s .next) (ok .list .once) in
-      stored-lies (s .next) (s .items) m (omega (arith, few₁)) (omega (arith, few₁)) (o .0) (o .1) (all-hold (length (s .units)) (s .items) (ok .within .units) (ok .list .fit) (ok .embeds))
+      stored-lies (s .next) (s .items) m (omega (arith, fewer)) (omega (arith, fewer)) (o .0) (o .1) (all-hold (length (s .units)) (s .items) (ok .within .units) (ok .list .fit) (ok .embeds))
 
   -- Every outcome of a call leaves a sound sheet ..
   pub stored-sound : Sound (grownHead h (headOr (s .items)) (s .next) (length (s .units))) (stored (s .items) m) (storedUnits (s .units) u)
@@ -165,7 +166,7 @@ module _ (s : Sheet) (h : Head) (m u : List ℕ) (ok : SoundSheet s) (words : le
       record {
         words = length-stored (s .items) m ∙ words;
         room = omega (arith, length-append (s .units) (drop (length (s .units)) u), length-drop (length (s .units)) u, ok .within .units);
-        items = few₁;
+        items = fewer;
         used = ok .within .units;
         walk = rw c at (lies .walk);
         each = chain-ok (s .units) (drop (length (s .units)) u) (s .next) (stored (s .items) m) (headOr (s .items)) (rw c at (lies .range)) (rw l (ok .list .fit)) (rw l (ok .pairs));

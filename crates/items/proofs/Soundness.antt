@@ -1,13 +1,13 @@
 -- The test for a sound sheet: its parts, and the ways through it that a walk takes. Assumes nothing.
-use Prim.Native.Nat.{ℕ, zero, suc, _+_, _-_, _/_, _%_, _<_, _≤_}
+use Prim.Native.Nat.{ℕ, zero, suc, _+_, _-_, _/_, _<_, _≤_}
 use native.Mathlib.Nat.{zero-add, add-zero, add-assoc}
 use native.Mathlib.Omega.{arith}
 use mathlib.Core.Path.{_≡_, refl, sym, ap, _∙_}
 use mathlib.Core.Bool.{Bool, true, false, cond, not, _&&_, _||_}
-use mathlib.Core.List.{List, [], _∷_}
+use mathlib.Core.List.{List, _∷_}
 use lib.ListN.{length, getD, take, drop}
 use lib.Dec.{eqb, ltb, leb}
-use borrow.Author.Tests.{eq-eqb, ne-eqb, lt-ltb, le-ltb, le-leb, lt-leb, eqb-true, ltb-true, leb-true}
+use borrow.Author.Tests.{eq-eqb, ne-eqb, lt-ltb, le-leb, lt-leb, eqb-true, ltb-true, leb-true}
 use Rattle.units.specs.Surrogates.{paired}
 use Rattle.units.proofs.Halves.{both, and-left, and-right, and-no-left, and-no-right}
 use Rattle.rules.specs.Sheet.{What, text, embed, mark, Item}
@@ -16,7 +16,7 @@ use Rattle.items.specs.declared.head.Head.{Head}
 use Rattle.items.specs.Word.{inRange}
 use Rattle.items.specs.Chain.{END, itemFrom, itemAt, nextAt, chain, walks}
 use Rattle.items.specs.Memory.{listOf, flagsOk, lenOf, whatOk, wordOk, eachOk, soundOf, Sound}
-use Rattle.items.proofs.Links.{walks-step, walks-out, walks-end, chain-step}
+use Rattle.items.proofs.Links.{walks-step, walks-out, chain-step}
 
 -- ---- one item
 -- the flags, as the code tests them

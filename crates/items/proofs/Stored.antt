@@ -1,28 +1,27 @@
 -- What storing a list does to a buffer: the list is what the links then give, each of its words is as packing makes it, and every other word stays.
 -- Assumes nothing.
-use Prim.Native.Nat.{ℕ, zero, suc, _+_, _-_, _*_, _/_, _%_, _<_, _≤_}
+use Prim.Native.Nat.{ℕ, zero, suc, _+_, _/_, _%_, _<_, _≤_}
 use native.Mathlib.Omega.{arith}
 use mathlib.Core.Path.{_≡_, refl, sym, ap, ap₂, _∙_}
-use mathlib.Core.Bool.{Bool, true, false, cond, _&&_}
-use mathlib.Core.List.{List, [], _∷_, _++_}
-use lib.ListN.{length, getD, set, take, drop, length-set, length-append, length-take, length-drop, List·getD-append}
-use lib.Seq.{getD-set-same, getD-set-other, set-getD, getD-take, getD-drop, getD-append-add, length-take-le, ext-getD}
-use lib.Dec.{eqb, ltb, leb}
-use borrow.Author.Tests.{eqb-true, eqb-false, lt-ltb, ltb-true, ltb-false}
+use mathlib.Core.Bool.{Bool, true, false, cond}
+use mathlib.Core.List.{List, [], _∷_}
+use lib.ListN.{length, getD, set, length-set}
+use lib.Seq.{getD-set-same, getD-set-other, set-getD}
+use lib.Dec.{eqb, ltb}
+use borrow.Author.Tests.{eqb-true, eqb-false, lt-ltb, ltb-true}
 use Rattle.units.proofs.Halves.{both, and-left, and-right}
 use Rattle.rules.specs.Sheet.{What, text, embed, mark, Item}
-use Rattle.rules.specs.Sound.{honest, occurs}
+use Rattle.rules.specs.Sound.{occurs}
 use Rattle.items.specs.declared.word.Content.{Content}
 use Rattle.items.specs.declared.word.Content.the-variants.{Text, Embed, Mark}
 use Rattle.items.specs.declared.word.Item.{Item as Unpacked}
 use Rattle.items.specs.Word.{whatOf, contentFrom, unpackOf, packOf, restOf, Fitting, inRange}
 use Rattle.items.specs.Chain.{END, itemFrom, itemAt, nextAt, chain, walks, headOr}
-use Rattle.items.specs.Memory.{whatOk, wordOk, eachOk, contentOf, wordOf, stored}
+use Rattle.items.specs.Memory.{eachOk, contentOf, wordOf, stored}
 use Rattle.items.proofs.Words.{kind-lt, payload-lt, flag-le, item-rest, pack-rest, pack-next, pack-unpack, fitting-from}
-use Rattle.items.proofs.Links.{walks-zero, walks-parts, Off, Distinct, head-is}
+use Rattle.items.proofs.Links.{walks-parts, Off, Distinct, head-is}
 use Rattle.items.proofs.Writes.{keep, keep-walks}
-use Rattle.items.proofs.Numbers.{AllBelow, Once, below-yes, below-no, none-off, once-parts, head-le}
-use Rattle.items.proofs.Soundness.{word-on}
+use Rattle.items.proofs.Numbers.{AllBelow, head-le}
 
 -- ---- one word
 pub content-back : (c : Content) → contentOf (whatOf c) ≡ c
@@ -199,31 +198,3 @@ stored-lies b (i ∷ l) m few room d a h =
       list = ap₂ _∷_ (ap (λ (y : ℕ). itemFrom x (y / 4096)) e ∙ word-item i n link x (h .0)) (ap (chain (length l) (set (stored l m) x w)) f ∙ keep (length l) (stored l m) n x w o ∙ r .list);
       range = both (inRange (getD (set (stored l m) x w) x 0)) _ (ap inRange e ∙ word-range i n link (h .0)) (ap (eachOk inRange (length l) (set (stored l m) x w)) f ∙ keep-each inRange (length l) (stored l m) n x w o ∙ r .range);
     }
-
--- ---- a working copy written back
--- A buffer whose first n words are the list's, over a buffer of the sheet.
-pub copy-back : (l : List Item) (n : ℕ) (m m′ : List ℕ) → n ≤ length m → n ≤ length m′ → Once l n → stored l m′ ≡ m′ → take n m′ ++ drop n m ≡ stored l m
-copy-back l n m m′ a b o e = ext-getD 0 (take n m′ ++ drop n m) (stored l m) (long ∙ sym (length-stored l m)) (λ i h. at i (omega (arith, long)) (ltb i n) refl)
-  where
-    front : length (take n m′) ≡ n
-    front = length-take-le n m′ b
-
-    long : length (take n m′ ++ drop n m) ≡ length m
-    long = omega (arith, length-append (take n m′) (drop n m), front, length-drop n m)
-
-    at : (i : ℕ) → i < length m → (t : Bool) → ltb i n ≡ t → getD (take n m′ ++ drop n m) i 0 ≡ getD (stored l m) i 0
-    at i h true q =
-        let k = ltb-true i n q in
-        List·getD-append (take n m′) (drop n m) 0 i (omega (arith, front))
-        ∙ getD-take n m′ i 0 k
-        ∙ ap (λ (x : List ℕ). getD x i 0) (sym e)
-        ∙ sym (stored-on l m m′ i h (omega arith) (omega (arith, o i, below-yes i n k)))
-    at i h false q =
-        let k = ltb-false i n q in
-        let s : length (take n m′) + (i - n) ≡ i = omega (arith, front) in
-        let t : n + (i - n) ≡ i = omega arith in
-        ap (λ (x : ℕ). getD (take n m′ ++ drop n m) x 0) (sym s)
-        ∙ getD-append-add (take n m′) (drop n m) (i - n) 0
-        ∙ getD-drop n m (i - n) 0
-        ∙ ap (λ (x : ℕ). getD m x 0) t
-        ∙ sym (stored-off l m i (none-off i l (o i ∙ below-no i n k)))

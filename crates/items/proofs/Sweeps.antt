@@ -1,13 +1,13 @@
 -- A sweep over the words below n by number, and what it stores. Assumes nothing.
-use Prim.Native.Nat.{ℕ, zero, suc, _+_, _-_, _/_, _%_, _<_, _≤_}
+use Prim.Native.Nat.{ℕ, zero, suc, _+_, _/_, _%_, _<_, _≤_}
 use native.Mathlib.Numerals.{add-one}
 use native.Mathlib.Omega.{arith}
 use mathlib.Core.Path.{_≡_, refl, sym, ap, ap₂, _∙_}
-use mathlib.Core.Bool.{Bool, true, false, cond}
-use mathlib.Core.List.{List, [], _∷_, _++_, map}
+use mathlib.Core.Bool.{Bool, true, false}
+use mathlib.Core.List.{List, _∷_, _++_, map}
 use lib.ListN.{length, getD, set, take, drop, length-set, take-append-drop}
 use lib.Seq.{getD-set-same, getD-set-other, drop-set-lt}
-use lib.Dec.{eqb, ltb}
+use lib.Dec.{eqb}
 use borrow.Author.Tests.{lt-ltb, eqb-true, eqb-false}
 use Rattle.rules.specs.Sheet.{Item, rested, begin}
 use Rattle.items.specs.declared.head.Head.{Head}
@@ -16,9 +16,9 @@ use Rattle.items.specs.Chain.{END, itemFrom, nextAt, chain, walks}
 use Rattle.items.specs.Memory.{listOf, eachOk, Sound, stored}
 use Rattle.items.specs.Calls.{restWord, sweepTo}
 use Rattle.items.proofs.Words.{item-rest, pack-rest, pack-next, fitting-from}
-use Rattle.items.proofs.Links.{walks-parts, distinct, length-chain}
-use Rattle.items.proofs.Numbers.{once, walk-below}
-use Rattle.items.proofs.Stored.{pack-range, each-all, stored-same, copy-back}
+use Rattle.items.proofs.Links.{walks-parts}
+use Rattle.items.proofs.Stored.{pack-range, each-all}
+use Rattle.items.proofs.Copies.{copy-chain}
 
 module _ (e : ℕ → ℕ) (m : List ℕ) where
   pub sweep-length : (i : ℕ) → length (sweepTo e i m) ≡ length m
@@ -69,10 +69,9 @@ module _ (e : ℕ → ℕ) (m : List ℕ) where
         let k = sweepTo e b m in
         let c = sweep-chain b s p in
         let fit : eachOk inRange b k s ≡ true = each-all inRange b b k s (λ j h. ap inRange (sweep-below b j h room) ∙ range (getD m j 0)) (c .0) in
-        let o = once b (chain b k s) (distinct b k few b s (c .0)) (walk-below b b k s (c .0)) (length-chain b k s) in
         sym (take-append-drop b k)
         ∙ ap (λ (x : List ℕ). take b k ++ x) (sweep-rest b b (omega arith))
-        ∙ copy-back (chain b k s) b m k room (omega (arith, sweep-length b)) o (stored-same b b k s few (c .0) fit)
+        ∙ copy-chain b m k s few room (omega (arith, sweep-length b)) (c .0) fit
         ∙ ap (λ (l : List Item). stored l m) (c .1)
 
 -- ---- begin

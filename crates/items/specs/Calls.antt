@@ -1,6 +1,6 @@
 -- What the calls that read, and begin, answer.
-use Prim.Native.Nat.{ℕ, zero, suc, _/_, _%_}
-use mathlib.Core.Bool.{Bool, true, false, cond, not}
+use Prim.Native.Nat.{ℕ, zero, suc}
+use mathlib.Core.Bool.{Bool, false, cond, not}
 use mathlib.Core.List.{List, []}
 use lib.ListN.{getD, set, take, drop}
 use lib.Dec.{ltb}

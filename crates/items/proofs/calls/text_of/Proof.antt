@@ -4,7 +4,7 @@ use mathlib.Core.Path.{_≡_, sym, _∙_}
 use mathlib.Core.Bool.{true}
 use borrow.Author.Tests.{not-true, not-false}
 use denote.Ref.{now}
-use Rattle.items.specs.Memory.{soundOf, Sound}
+use Rattle.items.specs.Memory.{soundOf}
 use Rattle.items.proofs.Soundness.{sound-parts}
 use Rattle.items.proofs.Showing.{text-broken, text-unused, text-is, text-room, text-part}
 use borrow.Author.Needs.{needs}

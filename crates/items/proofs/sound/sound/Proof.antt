@@ -1,7 +1,7 @@
 -- `items::sound::sound` meets its contract. The invariant: what is left of the test here is the whole test. Assumes nothing.
-use Prim.Native.Nat.{_≤_, _<_, _+_}
+use Prim.Native.Nat.{_≤_}
 use native.Mathlib.Omega.{arith}
-use mathlib.Core.Path.{_≡_, refl, sym, ap, _∙_}
+use mathlib.Core.Path.{_≡_, refl, sym, _∙_}
 use borrow.Author.Needs.{needs}
 use borrow.Author.Tests.{not-true, not-false, ne-eqb, eq-eqb}
 use denote.Ref.{now}
