@@ -1,11 +1,11 @@
 -- Moves carried out one after another. A walk of code cites these laws: what is left to do, from where it stands, gives what there was to do at first. Assumes nothing.
 use Prim.Native.Nat.{ℕ}
 use mathlib.Core.Path.{_≡_, refl, sym, ap, _∙_, fun-ext}
-use mathlib.Core.List.{List, [], _∷_, _++_, append-assoc, append-nil}
+use mathlib.Core.List.{List, _++_, append-assoc, append-nil}
 use Rattle.attrs.specs.Sets.{Env, none}
 use Rattle.rules.specs.Sheet.{Item}
 use Rattle.rules.specs.Reading.{live}
-use Rattle.rules.specs.Places.{At, Move, stay, after, andThen}
+use Rattle.rules.specs.Places.{At, Move, after, andThen}
 use Rattle.rules.proofs.Places.{force-append}
 use Rattle.items.specs.declared.head.Head.{Head}
 use Rattle.arena.specs.declared.Place.{Place}

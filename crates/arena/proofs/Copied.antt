@@ -1,14 +1,13 @@
 -- A copy holds the same list, and the words of a list are settled by it. Assumes nothing.
-use Prim.Native.Nat.{ℕ, zero, suc, _+_, _-_, _/_, _%_, _<_, _≤_}
+use Prim.Native.Nat.{ℕ, zero, suc, _+_, _-_, _<_, _≤_}
 use native.Mathlib.Nat.{zero-add}
 use native.Mathlib.Numerals.{add-one}
 use native.Mathlib.Omega.{arith}
 use mathlib.Core.Path.{_≡_, refl, sym, ap, ap₂, subst⁻¹, _∙_}
-use mathlib.Core.Bool.{Bool, true, false, cond}
-use mathlib.Core.List.{List, [], _∷_, _++_}
+use mathlib.Core.Bool.{true}
+use mathlib.Core.List.{List, _∷_, _++_}
 use lib.ListN.{length, getD, set, take, drop, length-append, length-drop, List·getD-append}
 use lib.Seq.{length-take-le, getD-take, paste, paste-suc}
-use lib.Dec.{ltb}
 use borrow.Author.Tests.{lt-ltb}
 use Rattle.rules.specs.Sheet as Sheet
 use Rattle.items.specs.declared.head.Head.{Head}
@@ -16,7 +15,7 @@ use Rattle.items.specs.declared.word.Content.{Content}
 use Rattle.items.specs.declared.word.Content.the-variants.{Text, Embed, Mark}
 use Rattle.items.specs.declared.word.Item.{Item}
 use Rattle.items.specs.Word.{whatOf, unpackOf, packOf}
-use Rattle.items.specs.Chain.{END, itemAt, nextAt, chain, walks, headOr}
+use Rattle.items.specs.Chain.{itemAt, nextAt, chain, walks, headOr}
 use Rattle.items.proofs.Links.{walks-parts}
 use Rattle.items.proofs.Writes.{after-is, item-is}
 use Rattle.arena.specs.Places.{SIZE, Neat, Arena, listOf}

@@ -1,18 +1,17 @@
 -- A text cut in two. Assumes nothing.
-use Prim.Native.Nat.{ℕ, zero, suc, _+_, _-_, _/_, _%_, _<_, _≤_}
+use Prim.Native.Nat.{ℕ, suc, _+_, _-_, _/_, _<_, _≤_}
 use native.Mathlib.Numerals.{add-one}
 use native.Mathlib.Omega.{arith}
-use mathlib.Core.Path.{_≡_, refl, sym, ap, ap₂, subst, subst⁻¹, _∙_}
-use mathlib.Core.Bool.{Bool, true, false, cond}
-use mathlib.Core.List.{List, [], _∷_, _++_}
+use mathlib.Core.Path.{_≡_, refl, ap, ap₂, subst, subst⁻¹, _∙_}
+use mathlib.Core.List.{List, _∷_, _++_}
 use lib.ListN.{length, getD, set, length-set}
-use Rattle.rules.specs.Sheet.{What, text, embed, mark, Item, like, width}
+use Rattle.rules.specs.Sheet.{text, Item, like, width}
 use Rattle.rules.specs.Places.{leftHalf, rightHalf}
 use Rattle.items.specs.declared.head.Head.{Head}
 use Rattle.items.specs.declared.word.Content.{Content}
 use Rattle.items.specs.declared.word.Content.the-variants.{Text, Embed, Mark}
 use Rattle.items.specs.Word.{whatOf, unpackOf, packOf}
-use Rattle.items.specs.Chain.{END, itemFrom, itemAt, nextAt, chain}
+use Rattle.items.specs.Chain.{END, itemFrom, itemAt, nextAt}
 use Rattle.items.proofs.Words.{item-rest, pack-rest, pack-next}
 use Rattle.items.proofs.Links.{Off, Distinct, distinct, off-above}
 use Rattle.items.proofs.Writes.{link-after, after-is, item-is}

@@ -4,10 +4,9 @@ use native.Mathlib.Omega.{arith}
 use mathlib.Core.Path.{_≡_, refl, ap, _∙_}
 use mathlib.Core.Bool.{Bool, true, false, cond}
 use mathlib.Core.List.{List, [], _∷_}
-use lib.Dec.{leb}
 use borrow.Author.Tests.{le-leb, lt-leb}
 use Rattle.rules.specs.Sheet.{Item, dead, width}
-use Rattle.rules.specs.Places.{At, Move, stay, over, split, uses, place}
+use Rattle.rules.specs.Places.{Move, stay, over, split, uses, place}
 use Rattle.items.specs.declared.head.Head.{Head}
 use Rattle.items.specs.Chain.{itemAt}
 use Rattle.arena.specs.declared.Place.{Place}

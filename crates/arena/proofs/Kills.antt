@@ -1,16 +1,15 @@
 -- An item deleted, anywhere in the list. Assumes nothing.
-use Prim.Native.Nat.{ℕ, zero, suc, _+_, _-_, _/_, _%_, _<_, _≤_}
+use Prim.Native.Nat.{ℕ, _+_, _-_, _/_, _%_, _<_, _≤_}
 use native.Mathlib.Omega.{arith}
-use mathlib.Core.Path.{_≡_, refl, sym, ap, ap₂, _∙_}
-use mathlib.Core.Bool.{Bool, true, false, cond}
+use mathlib.Core.Path.{_≡_, refl, sym, ap, _∙_}
+use mathlib.Core.Bool.{true}
 use mathlib.Core.List.{List, [], _∷_, _++_, map}
-use lib.ListN.{length, getD, set, length-set}
-use lib.Dec.{eqb}
+use lib.ListN.{length, getD, length-set}
 use borrow.Author.Tests.{eq-eqb, ne-eqb}
 use Rattle.rules.specs.Sheet.{Item, kill}
 use Rattle.items.specs.declared.head.Head.{Head}
 use Rattle.items.specs.Word.{unpackOf, packOf}
-use Rattle.items.specs.Chain.{END, itemFrom, itemAt, nextAt, chain, editAt}
+use Rattle.items.specs.Chain.{END, itemFrom, itemAt, nextAt, editAt}
 use Rattle.items.proofs.Words.{item-rest, pack-rest, pack-next, fitting-unpack}
 use Rattle.items.proofs.Links.{Off, Distinct, distinct}
 use Rattle.items.proofs.Writes.{edit-chain, edit-walks, after-is, off-mid}

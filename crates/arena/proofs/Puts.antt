@@ -1,9 +1,9 @@
 -- An item put between two others: the links stay sound, the words neat, and the new item stands between the parts of the list. Assumes nothing.
-use Prim.Native.Nat.{ℕ, zero, suc, _+_, _-_, _/_, _%_, _<_, _≤_}
+use Prim.Native.Nat.{ℕ, suc, _+_, _-_, _/_, _<_, _≤_}
 use native.Mathlib.Numerals.{add-one}
 use native.Mathlib.Omega.{arith}
 use mathlib.Core.Path.{_≡_, refl, sym, ap, ap₂, _∙_}
-use mathlib.Core.Bool.{Bool, true, false, cond}
+use mathlib.Core.Bool.{true, false}
 use mathlib.Core.List.{List, [], _∷_, _++_, append-assoc}
 use lib.ListN.{length, getD, set, length-set}
 use lib.Dec.{eqb}
@@ -12,7 +12,7 @@ use Rattle.rules.specs.Sheet.{Item, new}
 use Rattle.items.specs.declared.head.Head.{Head}
 use Rattle.items.specs.declared.word.Content.{Content}
 use Rattle.items.specs.Word.{whatOf, packOf, relinkOf}
-use Rattle.items.specs.Chain.{END, itemFrom, nextAt, chain, headOr, lastOr}
+use Rattle.items.specs.Chain.{END, itemFrom, chain, headOr, lastOr}
 use Rattle.items.proofs.Words.{item-rest, pack-rest, pack-next, relink-rest, relink-next}
 use Rattle.items.proofs.Links.{Off, Distinct, distinct, off-above, head-is}
 use Rattle.items.proofs.Writes.{link-after, link-front, last-of, after-is, item-is, start-le}

@@ -1,19 +1,18 @@
 -- The laws of a place: what stands left and right of it, as the links give it. Assumes nothing.
-use Prim.Native.Nat.{ℕ, zero, suc, _+_, _-_, _/_, _%_, _<_, _≤_}
+use Prim.Native.Nat.{ℕ, zero, suc, _+_, _-_, _<_, _≤_}
 use native.Mathlib.Omega.{arith}
-use mathlib.Core.Path.{_≡_, refl, sym, ap, ap₂, _∙_}
-use mathlib.Core.Bool.{Bool, true, false, cond}
+use mathlib.Core.Path.{_≡_, sym, ap, ap₂, _∙_}
+use mathlib.Core.Bool.{true}
 use mathlib.Core.List.{List, [], _∷_, _++_}
 use lib.ListN.{length, getD, take, drop, length-append, length-drop, take-append-drop}
 use lib.Seq.{take-at, drop-at}
 use Rattle.rules.specs.Sheet.{Item}
-use Rattle.rules.specs.Places.{At}
 use Rattle.items.specs.declared.head.Head.{Head}
 use Rattle.items.specs.Chain.{END, itemAt, nextAt, chain, walks, headOr, lastOr}
-use Rattle.items.proofs.Links.{walks-parts, walks-lt, walks-next, head-is, length-chain, chain-step}
+use Rattle.items.proofs.Links.{walks-parts, walks-lt, head-is, length-chain, chain-step}
 use Rattle.items.proofs.Writes.{no-cons}
 use Rattle.arena.specs.declared.Place.{Place}
-use Rattle.arena.specs.Places.{SIZE, Neat, Arena, listOf, leftOf, rightOf, placed, inForce, Standing}
+use Rattle.arena.specs.Places.{Neat, Arena, listOf, leftOf, rightOf, placed, inForce, Standing}
 
 -- ---- a place by the lists beside it
 pub parts : (h : Head) (m : List ℕ) (p : Place) → listOf h m ≡ leftOf h m p ++ rightOf h m p

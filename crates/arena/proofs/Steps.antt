@@ -1,5 +1,5 @@
 -- Each primitive carries its move out. Assumes nothing.
-use Prim.Native.Nat.{ℕ, zero, suc, _+_, _-_, _/_, _%_, _<_, _≤_}
+use Prim.Native.Nat.{ℕ, suc, _+_, _-_, _<_, _≤_}
 use native.Mathlib.Numerals.{add-one}
 use native.Mathlib.Omega.{arith}
 use mathlib.Core.Path.{_≡_, refl, sym, ap, ap₂, subst⁻¹, _∙_}
@@ -7,9 +7,9 @@ use mathlib.Core.List.{List, [], _∷_, _++_, append-assoc, append-nil}
 use mathlib.Core.Bool.{true, false}
 use lib.ListN.{length, getD, length-append}
 use Rattle.attrs.specs.declared.Attrs.{Attrs}
-use Rattle.attrs.specs.Sets.{Env, none}
-use Rattle.rules.specs.Sheet.{Item, new, like, kill, width}
-use Rattle.rules.specs.Places.{At, Move, stay, over, after, andThen, leftHalf, rightHalf}
+use Rattle.attrs.specs.Sets.{none}
+use Rattle.rules.specs.Sheet.{Item, new, like, kill}
+use Rattle.rules.specs.Places.{Move, after, andThen, leftHalf, rightHalf}
 use Rattle.rules.specs.Edits.{putNew}
 use Rattle.items.specs.declared.head.Head.{Head}
 use Rattle.items.specs.declared.word.Content.{Content}
@@ -17,7 +17,7 @@ use Rattle.items.specs.Word.{whatOf, unpackOf}
 use Rattle.items.specs.Chain.{END, itemAt, nextAt, chain, headOr, lastOr}
 use Rattle.items.proofs.Links.{length-chain, head-is, walks-next}
 use Rattle.arena.specs.declared.Place.{Place}
-use Rattle.arena.specs.Places.{SIZE, Linkable, Arena, listOf, leftOf, rightOf, placed, inForce, Standing, Carried, Puttable, Cuttable, startOf, passedForce, forwardOf, ahead, halving, killing, widened}
+use Rattle.arena.specs.Places.{SIZE, Linkable, Arena, listOf, leftOf, rightOf, Standing, Carried, Puttable, Cuttable, startOf, passedForce, forwardOf, ahead, halving, killing, widened}
 use Rattle.arena.specs.Writes.{Within, putMem, putHead, cutMem, cutHead, killMem}
 use Rattle.arena.proofs.Standing.{parts, Stands, stand, item-here, here-is, neat-here, right-lt, right-walk, length-right}
 use Rattle.arena.proofs.Carried.{carried-right}

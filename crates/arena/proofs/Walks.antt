@@ -1,18 +1,18 @@
 -- The turns of a walk: what is left to do, after an item is passed, deleted, or cut. Assumes nothing.
-use Prim.Native.Nat.{ℕ, zero, suc, _+_, _-_, _<_, _≤_}
+use Prim.Native.Nat.{ℕ, _+_, _-_, _<_, _≤_}
 use native.Mathlib.Omega.{arith}
-use mathlib.Core.Path.{_≡_, refl, sym, ap, ap₂, _∙_}
+use mathlib.Core.Path.{_≡_, sym, ap, ap₂, _∙_}
 use mathlib.Core.List.{List, [], _∷_, _++_, append-assoc}
 use lib.ListN.{length, length-append}
 use lib.Seq.{length-take-le}
 use Rattle.attrs.specs.Sets.{Env, none}
 use Rattle.rules.specs.Sheet.{Item, kill}
-use Rattle.rules.specs.Places.{At, Move, stay, over, after, andThen, whole}
+use Rattle.rules.specs.Places.{At, Move, over, after, whole}
 use Rattle.items.specs.declared.head.Head.{Head}
 use Rattle.items.specs.Chain.{itemAt, nextAt, chain, headOr}
 use Rattle.items.proofs.Links.{length-chain}
 use Rattle.arena.specs.declared.Place.{Place}
-use Rattle.arena.specs.Places.{listOf, leftOf, rightOf, placed, movedBy, keptPlace, Standing, Carried, Going, forwardOf, inTurn, staying, ahead, killing}
+use Rattle.arena.specs.Places.{listOf, leftOf, rightOf, placed, movedBy, keptPlace, Standing, Carried, Going, forwardOf, inTurn, staying}
 use Rattle.arena.specs.Writes.{killMem}
 use Rattle.arena.proofs.Carried.{then-as, then-stay, going-on, carried-then}
 use Rattle.arena.proofs.Standing.{parts, Stands, stand, item-here, none-here}

@@ -1,7 +1,7 @@
 -- What each write leaves in a working copy.
-use Prim.Native.Nat.{ℕ, _+_, _-_, _%_, _≤_}
-use mathlib.Core.Bool.{Bool, true, false, cond}
-use mathlib.Core.List.{List, [], _∷_, _++_}
+use Prim.Native.Nat.{ℕ, _+_, _-_, _≤_}
+use mathlib.Core.Bool.{true, false, cond}
+use mathlib.Core.List.{List, _++_}
 use lib.ListN.{getD, set, take, drop}
 use lib.Dec.{eqb}
 use Rattle.rules.specs.Sheet as Sheet

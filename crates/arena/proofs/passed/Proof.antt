@@ -1,6 +1,5 @@
 -- `arena::passed` meets its contract. Assumes nothing.
 use Rattle.arena.specs.Places.{passedForce}
-use mathlib.Core.Path.{_≡_, refl}
 use borrow.Author.Needs.{needs}
 use Rattle.arena.proofs.passed.Statement.{statement}
 use Rattle.arena.proofs.passed.Tie as tie

@@ -4,7 +4,7 @@ use Rattle.arena.specs.Writes.{copied}
 use denote.Ref.{now}
 use lib.ListN.{length, getD, set, length-set}
 use mathlib.Core.List.{List}
-use mathlib.Core.Path.{_≡_, refl, sym, ap, _∙_}
+use mathlib.Core.Path.{_≡_, refl, ap, _∙_}
 use native.Mathlib.Omega.{arith}
 use Prim.Native.Nat.{ℕ, _≤_, _-_}
 use Rattle.arena.proofs.copies.copy.Statement.{statement}

@@ -5,9 +5,8 @@ use Rattle.arena.proofs.Standing.{right-lt}
 use Rattle.arena.proofs.Carried.{going-start}
 use Rattle.arena.specs.Places.{Going, placing, startOf}
 use borrow.Author.Needs.{needs}
-use denote.Ref.{now}
 use lib.ListN.{length}
-use mathlib.Core.Path.{_≡_, refl, sym, _∙_}
+use mathlib.Core.Path.{sym, _∙_}
 use native.Mathlib.Omega.{arith}
 use Prim.Native.Nat.{_<_}
 use Rattle.arena.proofs.find.find_position.Statement.{statement}

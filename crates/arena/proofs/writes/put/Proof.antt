@@ -1,6 +1,5 @@
 -- `arena::put` meets its contract. Assumes nothing.
 use Rattle.arena.proofs.Steps.{put-carried, put-asks}
-use mathlib.Core.Path.{refl}
 use borrow.Author.Needs.{needs}
 use Rattle.arena.proofs.writes.put.Statement.{statement}
 use Rattle.arena.proofs.writes.put.Tie as tie

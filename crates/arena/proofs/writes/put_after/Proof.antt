@@ -1,6 +1,6 @@
 -- `arena::put_after` meets its contract: the stores are those of `putMem`. Assumes nothing.
 use Rattle.arena.specs.Writes.{frontMem, afterMem}
-use borrow.Author.Tests.{eq-eqb, ne-eqb}
+use borrow.Author.Tests.{ne-eqb}
 use lib.ListN.{length-set}
 use mathlib.Core.Path.{refl}
 use native.Mathlib.Omega.{arith}
