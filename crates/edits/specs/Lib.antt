@@ -1,0 +1,4 @@
+pub mod Moves
+pub mod Opens
+pub mod Formats
+pub mod Tidies
