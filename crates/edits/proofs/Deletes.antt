@@ -5,7 +5,7 @@ use mathlib.Core.Path.{_≡_, refl, ap, subst⁻¹, _∙_}
 use mathlib.Core.Bool.{Bool, true, false, cond, _||_}
 use mathlib.Core.List.{List, [], _∷_}
 use lib.Dec.{leb, ltb}
-use lib.ListN.{length, getD, length-set}
+use lib.ListN.{getD}
 use borrow.Author.Tests.{le-leb, lt-leb, lt-ltb}
 use Rattle.attrs.specs.Sets.{Env}
 use Rattle.rules.specs.Sheet.{What, text, embed, mark, Item, dead, like, kill, width, isMark}
@@ -66,10 +66,6 @@ kill-inside (suc n) i l m z h = go (dead i) (i .what) _ _ _ h
     go false (mark k v) a b c h = absurd (omega arith)
 
 -- ---- an item deleted or not, and passed
-pub if-length : (b : Bool) (m : List ℕ) (n : ℕ) (k : List ℕ) → k ≡ cond b (killMem m n) m → length k ≡ length m
-if-length true m n k e = ap length e ∙ simp length-set
-if-length false m n k e = ap length e
-
 module _ {f : Move} {h : Head} {m : List ℕ} {p : Place} {g : Move} {h₁ : Head} {m₁ : List ℕ} {p₁ : Place} (o : Going f h m p g h₁ m₁ p₁) (more : 0 < p₁ .todo) where
   pub going-if : (b : Bool) (k : List ℕ) → k ≡ cond b (killMem m₁ (p₁ .right)) m₁ → (q : Place) → q ≡ forwardOf k p₁ → (g₂ : Move)
       → ((e e₂ : Env) (l : List Item) (n : ℕ) → g e (itemAt m₁ (p₁ .right) ∷ l) n ≡ over (cond b (kill (itemAt m₁ (p₁ .right))) (itemAt m₁ (p₁ .right))) (g₂ e₂ l n))

@@ -110,7 +110,7 @@ fn is_idle(w: u64, start: Attrs, end: Attrs) -> bool
     }
     let c = it.content;
     match c {
-        Content::Text { start: _, len: _ } => false,
+        Content::Text { len: _, start: _ } => false,
         Content::Embed(_) => false,
         Content::Mark { key, value } => does_nothing(key, value, start, end),
     }
@@ -141,9 +141,9 @@ fn clean_format_gap(h: Head, items: &mut [u64], start: Place, stop: Place) -> Pl
     let end = gap_end(h, items, stop);
     let a = start.force;
     let b = end.force;
-    let at = tidy_until(h, items, start, stop.todo, a, b);
-    let _ = tidy_until(h, items, at, end.todo, a, b);
-    at
+    let tidied = tidy_until(h, items, start, stop.todo, a, b);
+    let _ = tidy_until(h, items, tidied, end.todo, a, b);
+    tidied
 }
 
 fn delete_and_tidy(h: Head, items: &mut [u64], p: Place, len: u32) -> At

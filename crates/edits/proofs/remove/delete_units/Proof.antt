@@ -1,8 +1,6 @@
 -- `edits::remove::delete_units` meets its contract: what is left to delete from here gives what there was at first. Assumes nothing.
-use mathlib.Core.Bool.{true}
-use lib.Dec.{ltb}
 use Rattle.arena.proofs.Steps.{cut-more}
-use Rattle.edits.proofs.Deletes.{if-length, deleted-all, deleted-end, deleted-past, deleted-cut, cuttable}
+use Rattle.edits.proofs.Deletes.{deleted-all, deleted-end, deleted-past, deleted-cut, cuttable}
 use Prim.Native.Nat.{_<_}
 use mathlib.Core.Path.{sym, _∙_}
 use native.Mathlib.Omega.{arith}
@@ -67,12 +65,12 @@ forward-requires c κs =
     let cut = c .before .before .before .before .before .before .before .before .before in
     let t = cut .before .before .before .before .before .before .before in
     let more = cut-more (t .before .before .loop .inv .stands) (t .if1 .taken) (cut .split .ensures) .0 in
-    (more, omega (arith, right-lt (cut .split .ensures .stands) more .1, if-length true (cut .split .last .1 .0) (cut .split .result .place .right) _ (c .before .before .before .delete .ensures)))
+    (more, omega (arith, right-lt (cut .split .ensures .stands) more .1, c .before .before .before .delete .kept .0))
 
 same-length-2 : tie.Need-same-length-2 Inv-loop μ-loop
 same-length-2 c =
     let cut = c .before .before .before .before .before .before .before .before .before .before in
-    if-length true (cut .split .last .1 .0) (cut .split .result .place .right) _ (c .before .before .before .before .delete .ensures) ∙ cut .split .ensures .stands .arena .long ∙ sym (cut .before .before .before .before .before .before .before .before .before .before .before .pre .0 .arena .long)
+    c .before .before .before .before .delete .kept .0 ∙ cut .split .ensures .stands .arena .long ∙ sym (cut .before .before .before .before .before .before .before .before .before .before .before .pre .0 .arena .long)
 
 returns-2 : tie.Need-returns-2 Inv-loop μ-loop
 returns-2 c =
@@ -88,8 +86,7 @@ delete-if-requires c κs = inside (c .before .before .before .before .before .be
 forward-requires-2 : tie.Need-forward-requires-2 Inv-loop μ-loop
 forward-requires-2 c κs =
     let t = c .before .before .before .before .before .before .before .before .before .before in
-    let on = t .before .before .loop in
-    (t .if1 .taken, omega (arith, inside t, if-length (ltb 0 (c .before .before .before .before .before .before .uses .result)) (on .items) (on .at .right) _ (c .before .before .before .delete-if .ensures)))
+    (t .if1 .taken, omega (arith, inside t, c .before .before .before .delete-if .kept .0))
 
 loop-less : tie.Need-loop-less Inv-loop μ-loop
 loop-less c = rw (c .forward2 .ensures) (omega (arith, c .before .before .before .before .before .before .before .before .before .before .before .if1 .taken))

@@ -1,7 +1,6 @@
 -- `edits::remove::tidy_until` meets its contract: what is left to tidy from here gives what there was at first. Assumes nothing.
 use Prim.Native.Nat.{suc, _-_, _<_}
 use Rattle.arena.specs.declared.Place.{Place}
-use Rattle.edits.proofs.Deletes.{if-length}
 use mathlib.Core.Path.{_≡_, sym, ap, _∙_}
 use native.Mathlib.Omega.{arith}
 use borrow.Author.Needs.{needs}
@@ -49,8 +48,7 @@ delete-if-requires c κs = inside (c .before .before .before) .1
 forward-requires : tie.Need-forward-requires Inv-loop μ-loop
 forward-requires c κs =
     let t = c .before .before .before .before .before .before .before in
-    let on = t .before .before .loop in
-    (omega (arith, t .if1 .taken), omega (arith, inside t, if-length (c .before .before .before .before .before .is-idle .result) (on .items) (on .at .right) _ (c .before .before .before .delete-if .ensures)))
+    (omega (arith, t .if1 .taken), omega (arith, inside t, c .before .before .before .delete-if .kept .0))
 
 loop-less : tie.Need-loop-less Inv-loop μ-loop
 loop-less c = rw (c .forward .ensures) (omega (arith, c .before .before .before .before .before .before .before .before .if1 .taken))

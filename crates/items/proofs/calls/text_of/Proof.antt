@@ -31,7 +31,7 @@ slice-aggregate-result-2 : tie.Need-slice-aggregate-result-2
 slice-aggregate-result-2 c = search needs
 
 returns-2 : tie.Need-returns-2
-returns-2 c = text-unused _ _ _ _ (sym (c .before .before .before .before .sound .ensures) ∙ not-false _ (c .before .before .before .if1 .left)) (c .before .if2 .taken)
+returns-2 c = text-unused _ _ _ _ (sym (c .before .before .before .before .sound .ensures) ∙ not-false _ (c .before .before .before .if1 .left)) (omega arith)
 
 mul-unpack : tie.Need-mul-unpack
 mul-unpack c = search needs
