@@ -1,0 +1,4 @@
+pub mod Entries
+pub mod Bits
+pub mod Seeks
+pub mod Puts

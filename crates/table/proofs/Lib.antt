@@ -1,0 +1,5 @@
+pub mod Tables
+pub mod Asks
+pub mod Grown
+pub mod Model
+pub mod Given

@@ -1,0 +1,4 @@
+pub mod Value
+pub mod Sound
+pub mod Ask
+pub mod Show

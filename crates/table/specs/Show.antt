@@ -1,0 +1,39 @@
+-- What is read back.
+use Prim.Native.Nat.{ℕ, _+_}
+use mathlib.Core.Bool.{Bool, false, cond}
+use mathlib.Core.List.{List, []}
+use lib.Dec.{eqb, ltb, leb}
+use Rattle.table.specs.declared.TableHead.{TableHead}
+use Rattle.table.specs.declared.Shown.{Shown}
+use Rattle.table.specs.declared.Shown.the-variants.{Nothing, Bool as IsBool, Int as IsInt, String as IsString}
+use Rattle.entries.specs.Entry.{kindAt, contentAt}
+use Rattle.table.specs.Value.{Value, bool, int, string, valueOf, bytesOf}
+use Rattle.table.specs.Sound.{soundOf}
+
+-- The case of each value; a string's bytes are shown where they lie.
+unfoldable pub caseOf : Value → Shown
+caseOf (bool b) = IsBool b
+caseOf (int z) = IsInt z
+caseOf (string c) = IsString
+
+-- A name's number is given out below the count of names, a value's from 1 up to the count of values; an unsound table gives none out.
+unfoldable pub givenName : TableHead → List ℕ → ℕ → Bool
+givenName h m n = cond (soundOf h m) (ltb n (h .names)) false
+
+unfoldable pub givenValue : TableHead → List ℕ → ℕ → Bool
+givenValue h m v = cond (soundOf h m) (cond (eqb v 0) false (leb v (h .values))) false
+
+-- Value v stands in slot 15 + v.
+unfoldable pub valueAt : List ℕ → ℕ → Value
+valueAt m v = valueOf (kindAt m (15 + v)) (contentAt m (15 + v))
+
+unfoldable pub shownOf : TableHead → List ℕ → ℕ → Shown
+shownOf h m v = cond (givenValue h m v) (caseOf (valueAt m v)) Nothing
+
+-- The bytes of a name; no byte, where the number is not given out.
+unfoldable pub nameOf : TableHead → List ℕ → ℕ → List ℕ
+nameOf h m n = cond (givenName h m n) (contentAt m n) []
+
+-- The bytes of a string value; no byte, where the number is not given out or the value is no string.
+unfoldable pub stringOf : TableHead → List ℕ → ℕ → List ℕ
+stringOf h m v = cond (givenValue h m v) (bytesOf (valueAt m v)) []

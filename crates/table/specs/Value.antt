@@ -1,0 +1,37 @@
+-- Values, and the entries that stand for them.
+use Prim.Native.Nat.{ℕ}
+use mathlib.Core.Bool.{Bool, cond}
+use mathlib.Core.List.{List, [], _∷_}
+use lib.Dec.{eqb}
+use lib.IntN.{ℤ}
+use mir.Syntax.{w64}
+use mir.Val.{ofZ, toZ}
+use Rattle.entries.specs.Number.{lowBytes, numberOf}
+
+pub data Value : Type 0 where
+  bool : Bool → Value
+  int : ℤ → Value
+  string : List ℕ → Value
+
+-- A bool is of kind 1 with the byte 0 or 1, an integer of kind 2 with the eight bytes of its two's complement, a string of kind 3.
+unfoldable pub kindOf : Value → ℕ
+kindOf (bool b) = 1
+kindOf (int z) = 2
+kindOf (string c) = 3
+
+unfoldable pub contentOf : Value → List ℕ
+contentOf (bool b) = cond b 1 0 ∷ []
+contentOf (int z) = lowBytes 8 (ofZ w64 z)
+contentOf (string c) = c
+
+-- What an entry of a kind stands for.
+unfoldable pub valueOf : ℕ → List ℕ → Value
+valueOf k c =
+    cond (eqb k 1) (bool (eqb (numberOf c) 1))
+    (cond (eqb k 2) (int (toZ w64 (numberOf c))) (string c))
+
+-- The bytes of a string.
+unfoldable pub bytesOf : Value → List ℕ
+bytesOf (bool b) = []
+bytesOf (int z) = []
+bytesOf (string c) = c
