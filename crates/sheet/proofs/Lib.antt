@@ -1,0 +1,5 @@
+pub mod Works
+pub mod Sounds
+pub mod Calls
+pub mod Inserts
+pub mod Ranges

@@ -1,0 +1,38 @@
+-- `sheet::change::change_by_index` meets its contract: the place, then the change. Assumes nothing.
+use native.Mathlib.Omega.{arith}
+use Rattle.rules.proofs.Room.{place-next}
+use Rattle.arena.proofs.Carried.{carried-then}
+use Rattle.edits.proofs.Rooms.{carried-room}
+use Rattle.attrs.specs.Packed.{says}
+use Rattle.sheet.specs.Changes.{moveOf}
+use Rattle.sheet.proofs.Works.{worked}
+use borrow.Author.Needs.{needs}
+use Rattle.sheet.proofs.change.change_by_index.Statement.{statement}
+use Rattle.sheet.proofs.change.change_by_index.Tie as tie
+use Rattle.sheet.proofs.change.change_by_index.Reads as reads
+use Rattle.sheet.proofs.change.change_by_index.Lts as lts
+use Rattle.arena.proofs.find.find_position.Reads as find-position-reads
+use Rattle.sheet.proofs.change.change_at.Reads as change-at-reads
+
+find-position-requires : tie.Need-find-position-requires
+find-position-requires c κs = search needs
+
+change-at-requires : tie.Need-change-at-requires
+change-at-requires c κs =
+    let found = c .before .before .before .before .before in
+    let start = found .before .before .before in
+    (found .find-position .ensures .stands, omega (arith, start .pre .1, carried-room (found .find-position .ensures) 1 (λ e l n. omega (arith, place-next (start .args .index) l n))), start .pre .2)
+
+same-length : tie.Need-same-length
+same-length c = search needs
+
+returns : tie.Need-returns
+returns c =
+    let done = c .before .before .before in
+    let found = done .before .before .before .before .before .before in
+    let start = found .before .before .before in
+    worked (start .args .index) (moveOf (start .args .change) (says (start .args .attrs))) (start .pre .0) (carried-then (found .find-position .ensures) (done .change-at .ensures))
+
+pub change-by-index-spec : {M : Type 1} → statement M
+change-by-index-spec =
+    tie.close (tie.spec find-position-requires change-at-requires same-length returns)

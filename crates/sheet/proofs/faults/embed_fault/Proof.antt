@@ -1,0 +1,20 @@
+-- `sheet::faults::embed_fault` meets its contract. Assumes nothing.
+use mathlib.Core.Path.{sym, _∙_}
+use borrow.Author.Needs.{needs}
+use Rattle.sheet.proofs.faults.embed_fault.Statement.{statement}
+use Rattle.sheet.proofs.faults.embed_fault.Tie as tie
+use Rattle.sheet.proofs.faults.embed_fault.Reads as reads
+use Rattle.sheet.proofs.faults.embed_fault.Lts as lts
+use Rattle.sheet.proofs.faults.in_pair.Reads as in-pair-reads
+
+in-pair-requires : tie.Need-in-pair-requires
+in-pair-requires c κs = search needs
+
+returns : tie.Need-returns
+returns c = rw (sym (c .before .in-pair .ensures) ∙ c .if1 .taken)
+
+returns-2 : tie.Need-returns-2
+returns-2 c = rw (sym (c .before .in-pair .ensures) ∙ c .if1 .left)
+
+pub embed-fault-spec : {M : Type 1} → statement M
+embed-fault-spec = tie.close (tie.spec in-pair-requires returns returns-2)

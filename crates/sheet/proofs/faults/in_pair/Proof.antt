@@ -1,0 +1,23 @@
+-- `sheet::faults::in_pair` meets its contract. Assumes nothing.
+use Rattle.sheet.proofs.Sounds.{used-is, sound-reads}
+use borrow.Author.Needs.{needs}
+use Rattle.sheet.proofs.faults.in_pair.Statement.{statement}
+use Rattle.sheet.proofs.faults.in_pair.Tie as tie
+use Rattle.sheet.proofs.faults.in_pair.Reads as reads
+use Rattle.sheet.proofs.faults.in_pair.Lts as lts
+use Rattle.cuts.proofs.cuts_pair.Reads as cuts-pair-reads
+
+cast-used : tie.Need-cast-used
+cast-used c = search needs
+
+slice-aggregate-cuts-pair : tie.Need-slice-aggregate-cuts-pair
+slice-aggregate-cuts-pair c = used-is _ _ _ (c .before .before .before .before .pre)
+
+cuts-pair-requires : tie.Need-cuts-pair-requires
+cuts-pair-requires c κs = sound-reads _ _ _ (c .before .before .before .before .pre)
+
+returns : tie.Need-returns
+returns c = search needs
+
+pub in-pair-spec : {M : Type 1} → statement M
+in-pair-spec = tie.close (tie.spec cast-used slice-aggregate-cuts-pair cuts-pair-requires returns)

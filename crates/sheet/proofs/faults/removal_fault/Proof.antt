@@ -1,0 +1,69 @@
+-- `sheet::faults::removal_fault` meets its contract. Assumes nothing.
+use native.Mathlib.Omega.{arith}
+use mathlib.Core.List.{List}
+use Prim.Native.Nat.{ℕ}
+use denote.Ref.{now}
+use Rattle.rules.specs.Rulings.{seen}
+use Rattle.items.specs.Memory.{modelOf}
+use Rattle.sheet.proofs.Ranges.{length-is, fault-pair, fault-zero, fault-short, fault-none}
+use borrow.Author.Needs.{needs}
+use Rattle.sheet.proofs.faults.removal_fault.Statement.{statement}
+use Rattle.sheet.proofs.faults.removal_fault.Tie as tie
+use Rattle.sheet.proofs.faults.removal_fault.Reads as reads
+use Rattle.sheet.proofs.faults.removal_fault.Lts as lts
+use Rattle.items.proofs.calls.len.Reads as len-reads
+use Rattle.sheet.proofs.faults.range_fault.Reads as range-fault-reads
+
+abbrev text : tie.Start → List ℕ
+text s = seen (modelOf (s .args .h) (now (s .args .items)) (now (s .args .units)))
+
+range-fault-requires : tie.Need-range-fault-requires
+range-fault-requires c κs = search needs
+
+returns : tie.Need-returns
+returns c =
+    let a = c .before .before .before .before in
+    fault-pair (text a) (a .args .index) (a .args .n) _ (c .before .range-fault .ensures) (c .if1 .taken)
+
+returns-2 : tie.Need-returns-2
+returns-2 c =
+    let e = c .before in
+    let a = e .before .before .before .before in
+    fault-zero (text a) (a .args .index) (a .args .n) _ (e .before .range-fault .ensures) (e .if1 .left) (c .if2 .taken)
+
+len-requires : tie.Need-len-requires
+len-requires c κs = search needs
+
+add-if3 : tie.Need-add-if3
+add-if3 c = search needs
+
+cast-if3 : tie.Need-cast-if3
+cast-if3 c = search needs
+
+returns-3 : tie.Need-returns-3
+returns-3 c =
+    let some = c .before .before in
+    let e = some .before in
+    let a = e .before .before .before .before in
+    let long = length-is _ _ _ (a .pre) _ (c .before .len .ensures) in
+    fault-short (text a) (a .args .index) (a .args .n) _ (e .before .range-fault .ensures) (e .if1 .left) (omega (arith, some .if2 .left)) (omega (arith, long, c .if3 .taken))
+
+returns-4 : tie.Need-returns-4
+returns-4 c =
+    let e = c .before .before .before in
+    let a = e .before .before .before .before in
+    let long = length-is _ _ _ (a .pre) _ (c .before .len .ensures) in
+    fault-none (text a) (a .args .index) (a .args .n) _ (e .before .range-fault .ensures) (e .if1 .left) (omega (arith, long, c .if3 .left))
+
+pub removal-fault-spec : {M : Type 1} → statement M
+removal-fault-spec =
+    tie.close
+    (tie.spec
+    range-fault-requires
+    returns
+    returns-2
+    len-requires
+    add-if3
+    cast-if3
+    returns-3
+    returns-4)

@@ -1,0 +1,14 @@
+-- `sheet::insert::embed_change` meets its contract. Assumes nothing.
+use Rattle.sheet.proofs.insert.embed_change.Statement.{statement}
+use Rattle.sheet.proofs.insert.embed_change.Tie as tie
+use Rattle.sheet.proofs.insert.embed_change.Reads as reads
+use Rattle.sheet.proofs.insert.embed_change.Lts as lts
+
+returns : tie.Need-returns
+returns c = rw (c .if1 .taken)
+
+returns-2 : tie.Need-returns-2
+returns-2 c = rw (c .if1 .left)
+
+pub embed-change-spec : {M : Type 1} → statement M
+embed-change-spec = tie.close (tie.spec returns returns-2)

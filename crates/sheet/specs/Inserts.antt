@@ -1,0 +1,25 @@
+-- Plain insertions and those with attributes, by one name.
+use Prim.Native.Nat.{ℕ}
+use mathlib.Core.Bool.{Bool, true, false}
+use mathlib.Core.List.{List}
+use Rattle.attrs.specs.Sets.{Set}
+use Rattle.rules.specs.Calls.{Call, insertText, insertTextWith, insertEmbed, insertEmbedWith}
+use Rattle.items.specs.declared.word.Content.the-variants.{Text, Embed, Mark}
+use Rattle.sheet.specs.declared.change.Change.{Change}
+use Rattle.sheet.specs.declared.change.Change.the-variants.{PlainText, PlainEmbed, With, Format, Remove}
+
+abbrev pub textCall : Bool → ℕ → List ℕ → Set → Call
+textCall true i us a = insertText i us
+textCall false i us a = insertTextWith i us a
+
+abbrev pub embedCall : Bool → ℕ → ℕ → Set → Call
+embedCall true i e a = insertEmbed i e
+embedCall false i e a = insertEmbedWith i e a
+
+abbrev pub textChange : Bool → ℕ → ℕ → Change
+textChange true s n = PlainText s n
+textChange false s n = With (Text s n)
+
+abbrev pub embedChange : Bool → ℕ → Change
+embedChange true e = PlainEmbed e
+embedChange false e = With (Embed e)
