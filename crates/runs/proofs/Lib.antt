@@ -1,0 +1,11 @@
+pub mod Merges
+pub mod Forces
+pub mod Spots
+pub mod Opens
+pub mod Tallies
+pub mod Fronts
+pub mod Fills
+pub mod Steps
+pub mod Lent
+pub mod Texts
+pub mod Ranges

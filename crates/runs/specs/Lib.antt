@@ -1,0 +1,5 @@
+pub mod Records
+pub mod Cursors
+pub mod Answers
+pub mod Fills
+pub mod Texts
