@@ -1,0 +1,7 @@
+pub mod Pendings
+pub mod Tellings
+pub mod Turns
+pub mod Steps
+pub mod Going
+pub mod Texts
+pub mod Events
