@@ -3,3 +3,4 @@ pub mod Sounds
 pub mod Calls
 pub mod Inserts
 pub mod Ranges
+pub mod Theorems

@@ -11,8 +11,6 @@ use denote.Ref.{now}
 use Rattle.sheet.proofs.Inserts.{append-whole}
 use Rattle.sheet.proofs.append.append_accepted.Statement.{statement}
 use Rattle.sheet.proofs.append.append_accepted.Tie as tie
-use Rattle.sheet.proofs.append.append_accepted.Reads as reads
-use Rattle.sheet.proofs.append.append_accepted.Lts as lts
 
 abbrev Inv-loop : tie.InvT-loop
 Inv-loop refusal units₀ used chunk from i₀ units i = (i ≤ length chunk) × (length units ≡ length units₀) × (units ≡ paste units₀ from chunk i)

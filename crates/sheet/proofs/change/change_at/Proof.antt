@@ -6,11 +6,6 @@ use Rattle.sheet.proofs.Works.{changed}
 use borrow.Author.Needs.{needs}
 use Rattle.sheet.proofs.change.change_at.Statement.{statement}
 use Rattle.sheet.proofs.change.change_at.Tie as tie
-use Rattle.sheet.proofs.change.change_at.Reads as reads
-use Rattle.sheet.proofs.change.change_at.Lts as lts
-use Rattle.arena.proofs.writes.put.Reads as put-reads
-use Rattle.edits.proofs.insert.insert.Reads as insert-reads
-use Rattle.edits.proofs.insert.insert_plain.Reads as insert-plain-reads
 
 enum-known-change : tie.Need-enum-known-change
 enum-known-change c = search needs

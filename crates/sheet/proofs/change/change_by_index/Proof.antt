@@ -9,10 +9,6 @@ use Rattle.sheet.proofs.Works.{worked}
 use borrow.Author.Needs.{needs}
 use Rattle.sheet.proofs.change.change_by_index.Statement.{statement}
 use Rattle.sheet.proofs.change.change_by_index.Tie as tie
-use Rattle.sheet.proofs.change.change_by_index.Reads as reads
-use Rattle.sheet.proofs.change.change_by_index.Lts as lts
-use Rattle.arena.proofs.find.find_position.Reads as find-position-reads
-use Rattle.sheet.proofs.change.change_at.Reads as change-at-reads
 
 find-position-requires : tie.Need-find-position-requires
 find-position-requires c κs = search needs

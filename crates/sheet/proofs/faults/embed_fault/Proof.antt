@@ -3,9 +3,6 @@ use mathlib.Core.Path.{sym, _∙_}
 use borrow.Author.Needs.{needs}
 use Rattle.sheet.proofs.faults.embed_fault.Statement.{statement}
 use Rattle.sheet.proofs.faults.embed_fault.Tie as tie
-use Rattle.sheet.proofs.faults.embed_fault.Reads as reads
-use Rattle.sheet.proofs.faults.embed_fault.Lts as lts
-use Rattle.sheet.proofs.faults.in_pair.Reads as in-pair-reads
 
 in-pair-requires : tie.Need-in-pair-requires
 in-pair-requires c κs = search needs

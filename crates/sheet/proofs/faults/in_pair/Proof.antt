@@ -3,9 +3,6 @@ use Rattle.sheet.proofs.Sounds.{used-is, sound-reads}
 use borrow.Author.Needs.{needs}
 use Rattle.sheet.proofs.faults.in_pair.Statement.{statement}
 use Rattle.sheet.proofs.faults.in_pair.Tie as tie
-use Rattle.sheet.proofs.faults.in_pair.Reads as reads
-use Rattle.sheet.proofs.faults.in_pair.Lts as lts
-use Rattle.cuts.proofs.cuts_pair.Reads as cuts-pair-reads
 
 cast-used : tie.Need-cast-used
 cast-used c = search needs

@@ -9,10 +9,6 @@ use Rattle.sheet.proofs.Ranges.{length-is, fault-pair, fault-zero, faul
 use borrow.Author.Needs.{needs}
 use Rattle.sheet.proofs.faults.removal_fault.Statement.{statement}
 use Rattle.sheet.proofs.faults.removal_fault.Tie as tie
-use Rattle.sheet.proofs.faults.removal_fault.Reads as reads
-use Rattle.sheet.proofs.faults.removal_fault.Lts as lts
-use Rattle.items.proofs.calls.len.Reads as len-reads
-use Rattle.sheet.proofs.faults.range_fault.Reads as range-fault-reads
 
 abbrev text : tie.Start → List ℕ
 text s = seen (modelOf (s .args .h) (now (s .args .items)) (now (s .args .units)))

@@ -4,10 +4,6 @@ use borrow.Author.Tests.{not-false}
 use borrow.Author.Needs.{needs}
 use Rattle.sheet.proofs.faults.text_fault.Statement.{statement}
 use Rattle.sheet.proofs.faults.text_fault.Tie as tie
-use Rattle.sheet.proofs.faults.text_fault.Reads as reads
-use Rattle.sheet.proofs.faults.text_fault.Lts as lts
-use Rattle.sheet.proofs.faults.embed_fault.Reads as embed-fault-reads
-use Rattle.units.proofs.is_whole.Reads as is-whole-reads
 
 is-whole-requires : tie.Need-is-whole-requires
 is-whole-requires c κs = search needs

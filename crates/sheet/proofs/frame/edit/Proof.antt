@@ -7,11 +7,6 @@ use Rattle.sheet.proofs.Works.{load-is, worked-loaded, granted-not, gra
 use borrow.Author.Needs.{needs}
 use Rattle.sheet.proofs.frame.edit.Statement.{statement}
 use Rattle.sheet.proofs.frame.edit.Tie as tie
-use Rattle.sheet.proofs.frame.edit.Reads as reads
-use Rattle.sheet.proofs.frame.edit.Lts as lts
-use Rattle.arena.proofs.copies.copy.Reads as copy-reads
-use Rattle.items.proofs.head.Head.grown.Reads as grown-reads
-use Rattle.sheet.proofs.change.change_by_index.Reads as change-by-index-reads
 
 slice-aggregate-copy : tie.Need-slice-aggregate-copy
 slice-aggregate-copy c = search needs

@@ -1,8 +1,6 @@
 -- `sheet::insert::embed_change` meets its contract. Assumes nothing.
 use Rattle.sheet.proofs.insert.embed_change.Statement.{statement}
 use Rattle.sheet.proofs.insert.embed_change.Tie as tie
-use Rattle.sheet.proofs.insert.embed_change.Reads as reads
-use Rattle.sheet.proofs.insert.embed_change.Lts as lts
 
 returns : tie.Need-returns
 returns c = rw (c .if1 .taken)

@@ -17,12 +17,6 @@ use Rattle.sheet.proofs.Inserts.{embedRuled, embed-ruled, embed-ready}
 use borrow.Author.Needs.{needs}
 use Rattle.sheet.proofs.insert.put_embed.Statement.{statement}
 use Rattle.sheet.proofs.insert.put_embed.Tie as tie
-use Rattle.sheet.proofs.insert.put_embed.Reads as reads
-use Rattle.sheet.proofs.insert.put_embed.Lts as lts
-use Rattle.items.proofs.sound.sound.Reads as sound-reads
-use Rattle.sheet.proofs.faults.embed_fault.Reads as embed-fault-reads
-use Rattle.sheet.proofs.frame.edit.Reads as edit-reads
-use Rattle.sheet.proofs.insert.embed_change.Reads as embed-change-reads
 
 -- the call that is asked for, and its ruling
 abbrev asked : tie.Start → Call

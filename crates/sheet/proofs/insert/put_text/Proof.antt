@@ -21,13 +21,6 @@ use Rattle.sheet.proofs.Inserts.{textRuled, text-ruled, text-quiet, tex
 use borrow.Author.Needs.{needs}
 use Rattle.sheet.proofs.insert.put_text.Statement.{statement}
 use Rattle.sheet.proofs.insert.put_text.Tie as tie
-use Rattle.sheet.proofs.insert.put_text.Reads as reads
-use Rattle.sheet.proofs.insert.put_text.Lts as lts
-use Rattle.items.proofs.sound.sound.Reads as sound-reads
-use Rattle.sheet.proofs.append.append_accepted.Reads as append-accepted-reads
-use Rattle.sheet.proofs.faults.text_fault.Reads as text-fault-reads
-use Rattle.sheet.proofs.frame.edit.Reads as edit-reads
-use Rattle.sheet.proofs.insert.text_change.Reads as text-change-reads
 
 abbrev first : tie.After-sound → tie.Start
 first c = c .before .before .before .before .before .before

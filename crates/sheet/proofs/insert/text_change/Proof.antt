@@ -1,8 +1,6 @@
 -- `sheet::insert::text_change` meets its contract. Assumes nothing.
 use Rattle.sheet.proofs.insert.text_change.Statement.{statement}
 use Rattle.sheet.proofs.insert.text_change.Tie as tie
-use Rattle.sheet.proofs.insert.text_change.Reads as reads
-use Rattle.sheet.proofs.insert.text_change.Lts as lts
 
 returns : tie.Need-returns
 returns c = rw (c .if1 .taken)

@@ -12,11 +12,6 @@ use Rattle.sheet.proofs.Calls.{carry-unsound, carry-faulty, carry-edite
 use borrow.Author.Needs.{needs}
 use Rattle.sheet.proofs.range.format.Statement.{statement}
 use Rattle.sheet.proofs.range.format.Tie as tie
-use Rattle.sheet.proofs.range.format.Reads as reads
-use Rattle.sheet.proofs.range.format.Lts as lts
-use Rattle.items.proofs.sound.sound.Reads as sound-reads
-use Rattle.sheet.proofs.faults.range_fault.Reads as range-fault-reads
-use Rattle.sheet.proofs.frame.edit.Reads as edit-reads
 
 abbrev first : tie.After-sound → tie.Start
 first c = c .before .before .before .before

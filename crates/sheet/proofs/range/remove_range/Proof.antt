@@ -12,12 +12,6 @@ use Rattle.sheet.proofs.Ranges.{remove-quiet, remove-ruled}
 use borrow.Author.Needs.{needs}
 use Rattle.sheet.proofs.range.remove_range.Statement.{statement}
 use Rattle.sheet.proofs.range.remove_range.Tie as tie
-use Rattle.sheet.proofs.range.remove_range.Reads as reads
-use Rattle.sheet.proofs.range.remove_range.Lts as lts
-use Rattle.attrs.proofs.Attrs.empty.Reads as empty-reads
-use Rattle.items.proofs.sound.sound.Reads as sound-reads
-use Rattle.sheet.proofs.faults.removal_fault.Reads as removal-fault-reads
-use Rattle.sheet.proofs.frame.edit.Reads as edit-reads
 
 abbrev first : tie.After-sound → tie.Start
 first c = c .before .before .before .before
