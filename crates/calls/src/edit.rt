@@ -1,0 +1,112 @@
+// One line's call.
+use crate::answer::last;
+use crate::answer::query;
+use crate::say::say;
+use crate::say::say_no_call;
+use crate::say::say_refused;
+use attrs::Attrs;
+use items::calls::Answer;
+use items::calls::begin;
+use items::head::Head;
+use lines::calls::Asked;
+use lines::calls::Call;
+use lines::calls::read_call;
+use sheet::insert::insert;
+use sheet::insert::insert_embed;
+use sheet::insert::insert_embed_with_attributes;
+use sheet::insert::insert_with_attributes;
+use sheet::range::format;
+use sheet::range::remove_range;
+
+// The sheet's head, and whether a call was made on the sheet.
+pub struct State {
+    pub head: Head,
+    pub touched: bool,
+}
+
+fn carried(
+    h: Head,
+    call: Call,
+    set: Attrs,
+    chunk: &[u16],
+    items: &mut [u64],
+    units: &mut [u16],
+) -> Answer {
+    match call {
+        Call::Insert(index) => insert(h, items, units, index, chunk),
+        Call::InsertWith(index) => insert_with_attributes(h, items, units, index, chunk, set),
+        Call::Embed { index, n } => insert_embed(h, items, units, index, n),
+        Call::EmbedWith { index, n } => insert_embed_with_attributes(
+            h,
+            items,
+            units,
+            index,
+            n,
+            set,
+        ),
+        Call::Format { index, len } => format(h, items, units, index, len, set),
+        Call::Remove { index, len } => remove_range(h, items, units, index, len),
+        _ => begin(h, items, units),
+    }
+}
+
+fn edited(h: Head, asked: Asked, chunk: &[u16], items: &mut [u64], units: &mut [u16]) -> Head {
+    if asked.refusal != 0 {
+        say_refused(asked.refusal);
+        return h;
+    }
+    let call = asked.call;
+    let set = asked.attrs;
+    let a = carried(h, call, set, chunk, items, units);
+    if a.refusal != 0 {
+        say_refused(a.refusal);
+    }
+    a.head
+}
+
+// A fresh sheet, where there was a call on the old one.
+fn fresh(s: State, items: &[u64], units: &[u16]) -> State {
+    if !s.touched {
+        return s;
+    }
+    last(s.head, items, units);
+    say(b"new\n");
+    State {
+        head: Head::fresh(),
+        touched: false,
+    }
+}
+
+// A delta is no call yet.
+pub fn run_line(
+    s: State,
+    line: &[u8],
+    number: u64,
+    text: &mut [u16],
+    items: &mut [u64],
+    units: &mut [u16],
+) -> State {
+    let asked = read_call(line, text);
+    let call = asked.call;
+    let n = asked.count;
+    let head = s.head;
+    match call {
+        Call::Nothing => s,
+        Call::Fresh => fresh(s, items, units),
+        Call::Wrong | Call::Delta(_) => {
+            say_no_call(number);
+            s
+        }
+        Call::Query => {
+            query(head, items, units);
+            State {
+                head,
+                touched: true,
+            }
+        }
+        _ => State {
+            head: edited(head, asked, &text[..n], items, units),
+            touched: true,
+        },
+    }
+}

@@ -1,0 +1,16 @@
+// Reads one call a line from standard input, and writes `refused N` for each refused one; at the end the length and the joined runs.
+mod say; // what is written
+mod answer; // the length, runs, items and the event of a sheet
+mod edit; // one line's call
+mod input; // lines from standard input
+
+use items::head::Head;
+
+fn main() {
+    let mut items = [0u64; 2048];
+    let mut units = [0u16; 16384];
+    let mut text = [0u16; 32768];
+    let mut buf = [0u8; 135168];
+    let end = input::all_lines(&mut buf, &mut text, &mut items, &mut units);
+    answer::last(end.head, &items, &units);
+}

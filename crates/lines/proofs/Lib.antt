@@ -1,0 +1,6 @@
+pub mod Spans
+pub mod Figures
+pub mod Gathering
+pub mod Calling
+pub mod Writing
+pub mod Moving
