@@ -10,12 +10,12 @@ use arena::Place;
 use attrs::Attrs;
 use edits::format::insert_format;
 use edits::insert::insert;
-use edits::remove::delete_here;
 use items::head::Head;
 use items::word::Content;
 use ops::delta::Delta;
 use ops::delta::Inserted;
 use ops::delta::Op;
+use removal::delete_here;
 
 // Empty text does nothing, it does not even settle.
 fn insert_text(h: Head, work: &mut [u64], p: Place, start: u32, len: u32, attrs: Attrs) -> At

@@ -13,9 +13,9 @@ use Rattle.items.specs.declared.head.Head.{Head}
 use Rattle.arena.specs.declared.Place.{Place}
 use Rattle.arena.specs.Places.{leftOf, rightOf, Standing, Carried}
 use Rattle.arena.proofs.Carried.{carried-then, carried-as}
-use Rattle.edits.specs.Moves.{settling}
-use Rattle.edits.specs.Opens.{Opens}
-use Rattle.edits.proofs.Opens.{completes, settled-carried}
+use Rattle.marks.specs.Moves.{settling}
+use Rattle.marks.specs.Opens.{Opens}
+use Rattle.marks.proofs.Opens.{completes, settled-carried}
 
 module _ {h : Head} {m : List ℕ} {p q : Place} {h₁ : Head} {m₁ : List ℕ} {p₁ : Place} where
   pub insert-carried : Standing h m p → (a b : Attrs) → b ≡ onto a (completed (says a) (envOf (p .force))) → Carried (settling (says b)) h m p h m q

@@ -1,12 +1,2 @@
-pub mod Closes
-pub mod Deletes
 pub mod Formats
-pub mod Gaps
 pub mod Inserts
-pub mod Opens
-pub mod Puts
-pub mod Removes
-pub mod Rooms
-pub mod Settles
-pub mod Tidies
-pub mod Words

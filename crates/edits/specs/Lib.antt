@@ -1,4 +1,1 @@
-pub mod Moves
-pub mod Opens
 pub mod Formats
-pub mod Tidies

@@ -8,9 +8,6 @@ ghost use Rattle.rules.specs.Edits.{closing, walking, format};
 ghost use Rattle.items.specs.Word.{whatOf, unpackOf};
 ghost use Rattle.arena.specs.Places.{SIZE, Neat, Standing, Carried, Going};
 ghost use Rattle.edits.specs.Formats.{liveTurn, walksOver, turnOf, killedIf, leftAfter, rememberedAfter};
-use crate::marks::insert_attributes;
-use crate::marks::insert_negated_attributes;
-use crate::marks::minimize_attr_changes;
 use arena::At;
 use arena::Place;
 use arena::find::width;
@@ -22,6 +19,9 @@ use items::head::Head;
 use items::word::Content;
 use items::word::Item;
 use items::word::unpack;
+use marks::insert_attributes;
+use marks::insert_negated_attributes;
+use marks::minimize_attr_changes;
 
 // What the walk does with the item right of it.
 const STOP: u32 = 0;

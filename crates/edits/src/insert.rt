@@ -4,15 +4,15 @@ ghost use Rattle.attrs.specs.Packed.{says};
 ghost use Rattle.rules.specs.Edits.{plainText, insertWith};
 ghost use Rattle.items.specs.Word.{whatOf};
 ghost use Rattle.arena.specs.Places.{SIZE, InRange, Standing, Carried};
-use crate::marks::insert_attributes;
-use crate::marks::insert_negated_attributes;
-use crate::marks::minimize_attr_changes;
 use arena::At;
 use arena::Place;
 use arena::writes::put;
 use attrs::Attrs;
 use items::head::Head;
 use items::word::Content;
+use marks::insert_attributes;
+use marks::insert_negated_attributes;
+use marks::minimize_attr_changes;
 
 // Text or an embed that carries exactly these attributes.
 pub fn insert(h: Head, items: &mut [u64], p: Place, content: Content, attrs: Attrs) -> At

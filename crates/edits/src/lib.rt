@@ -1,5 +1,3 @@
-// The edits, carried out in a working copy from a place.
-pub mod marks; // settling, opening and closing
+// The edits that put something, carried out in a working copy from a place.
 pub mod insert; // new text and embeds
 pub mod format; // a range formatted
-pub mod remove; // deleting and tidying

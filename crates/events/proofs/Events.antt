@@ -20,7 +20,7 @@ use Rattle.items.proofs.Models.{used-length, model-sound}
 use Rattle.ops.specs.declared.delta.DeltaOp.{DeltaOp}
 use Rattle.ops.specs.Words.{allWords}
 use Rattle.events.specs.declared.walk.Measure.{Measure}
-use Rattle.events.specs.Steps.{wasBy, isBy}
+use Rattle.assembling.specs.Steps.{wasBy, isBy}
 use Rattle.events.specs.Told.{Ops, deltaOps, encoded, unitsFor, texts, tellAll, begun}
 use Rattle.events.specs.Walks.{Walkable, Walked, gathered, givenBy}
 use Rattle.events.specs.Given.{Given, refused, gives, fitsIn, given, atFront}

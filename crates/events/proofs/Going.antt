@@ -19,11 +19,11 @@ use Rattle.ops.specs.declared.words.Found.{Found}
 use Rattle.ops.specs.declared.words.Found.the-variants.{Is, Nothing}
 use Rattle.ops.specs.declared.words.MaybeOp.{MaybeOp}
 use Rattle.ops.specs.Words.{wordsOf}
-use Rattle.events.specs.declared.assembler.Assembler.{Assembler}
-use Rattle.events.specs.declared.assembler.Passed.{Passed}
+use Rattle.assembling.specs.declared.assembler.Assembler.{Assembler}
+use Rattle.assembling.specs.declared.assembler.Passed.{Passed}
 use Rattle.events.specs.declared.telling.Count.{Count}
 use Rattle.events.specs.declared.walk.Measure.{Measure}
-use Rattle.events.specs.Steps.{wasBy, isBy, load, insertedBy, actionOp, passBy, freshAsm}
+use Rattle.assembling.specs.Steps.{wasBy, isBy, load, insertedBy, actionOp, passBy, freshAsm}
 use Rattle.events.specs.Told.{Ops, deltaOps, tellAll, telling, Telling, begun, opsIn, foundOps, keptBy, wroteBy}
 use Rattle.events.specs.Walks.{Walkable, Walked, gathered}
 use Rattle.events.proofs.Tellings.{tell-append, ops-append}

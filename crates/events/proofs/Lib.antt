@@ -1,4 +1,3 @@
-pub mod Pendings
 pub mod Tellings
 pub mod Turns
 pub mod Steps

@@ -18,11 +18,11 @@ use Rattle.rules.specs.Event.{idle, Asm, addOp, Change, stays, becomes, change,
 use Rattle.ops.specs.declared.delta.Inserted.the-variants.{Embed}
 use Rattle.ops.specs.declared.delta.Op.the-variants.{Insert}
 use Rattle.ops.specs.declared.delta.DeltaOp.{DeltaOp}
-use Rattle.events.specs.declared.runs.Action.{Action}
-use Rattle.events.specs.declared.runs.Action.the-variants.{Idle, Inserting, Deleting, Retaining}
-use Rattle.events.specs.declared.assembler.Assembler.{Assembler}
-use Rattle.events.specs.declared.runs.Turn.{Turn}
-use Rattle.events.specs.Steps.{insertedBy, counted, load, grownBy, turnedBy, textBy, tellsToo, pendingOf, breaksBy, changedBy, pastBy, markTurn, pendingBy, passBy, goesOn, begins, found}
+use Rattle.assembling.specs.declared.runs.Action.{Action}
+use Rattle.assembling.specs.declared.runs.Action.the-variants.{Idle, Inserting, Deleting, Retaining}
+use Rattle.assembling.specs.declared.assembler.Assembler.{Assembler}
+use Rattle.assembling.specs.declared.runs.Turn.{Turn}
+use Rattle.assembling.specs.Steps.{insertedBy, counted, load, grownBy, turnedBy, textBy, tellsToo, pendingOf, breaksBy, changedBy, pastBy, markTurn, pendingBy, passBy, goesOn, begins, found}
 use Rattle.events.specs.Told.{Ops, deltaOps, opsIn}
 use Rattle.events.proofs.Tellings.{ops-append}
 use Rattle.events.proofs.Turns.{told-append, runOf, codeOf, Plain, goes-on, grows-insert, grows-delete, grows-retain, marks-turn, op-told, units-told, Steps, onRun, turns-steps}

@@ -18,7 +18,7 @@ use Rattle.items.specs.Chain.{itemAt, nextAt, chain, walks}
 use Rattle.items.specs.Memory.{listOf}
 use Rattle.items.proofs.Links.{chain-step, walks-next}
 use Rattle.events.specs.declared.fill.Piece.{Piece}
-use Rattle.events.specs.Steps.{wasBy, isBy}
+use Rattle.assembling.specs.Steps.{wasBy, isBy}
 use Rattle.events.specs.Told.{Ops, unitsIn, unitsFor, texts}
 use Rattle.events.specs.Walks.{Walkable, pieceBy, givenBy}
 use Rattle.events.proofs.Tellings.{sets-append}

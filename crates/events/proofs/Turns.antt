@@ -13,12 +13,12 @@ use Rattle.rules.specs.Event.{Run, idle, inserting, deleting, retaining, Asm, a
 use Rattle.ops.specs.declared.delta.Inserted.{Inserted}
 use Rattle.ops.specs.declared.delta.Inserted.the-variants.{Text, Embed}
 use Rattle.ops.specs.declared.delta.Op.the-variants.{Insert}
-use Rattle.events.specs.declared.runs.Action.{Action}
-use Rattle.events.specs.declared.runs.Action.the-variants.{Idle, Inserting, Deleting, Retaining}
-use Rattle.events.specs.declared.assembler.Assembler.{Assembler}
-use Rattle.events.specs.declared.runs.Turn.{Turn}
-use Rattle.events.specs.declared.assembler.Passed.{Passed}
-use Rattle.events.specs.Steps.{insertedBy, counted, actionOp, growInsertBy, growDeleteBy, growRetainBy, turnedBy, pendingOf, breaksBy, markTurn, goesOn, begins}
+use Rattle.assembling.specs.declared.runs.Action.{Action}
+use Rattle.assembling.specs.declared.runs.Action.the-variants.{Idle, Inserting, Deleting, Retaining}
+use Rattle.assembling.specs.declared.assembler.Assembler.{Assembler}
+use Rattle.assembling.specs.declared.runs.Turn.{Turn}
+use Rattle.assembling.specs.declared.assembler.Passed.{Passed}
+use Rattle.assembling.specs.Steps.{insertedBy, counted, actionOp, growInsertBy, growDeleteBy, growRetainBy, turnedBy, pendingOf, breaksBy, markTurn, goesOn, begins}
 use Rattle.events.specs.Told.{Ops, partOf, deltaOps, opsIn}
 
 -- ---- glyphs are counted

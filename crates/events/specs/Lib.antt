@@ -1,4 +1,3 @@
-pub mod Steps
 pub mod Told
 pub mod Walks
 pub mod Given

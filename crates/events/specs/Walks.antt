@@ -13,7 +13,7 @@ use Rattle.items.specs.Chain.{walks}
 use Rattle.items.specs.Memory.{listOf}
 use Rattle.events.specs.declared.walk.Measure.{Measure}
 use Rattle.events.specs.declared.fill.Piece.{Piece}
-use Rattle.events.specs.Steps.{wasBy, isBy}
+use Rattle.assembling.specs.Steps.{wasBy, isBy}
 use Rattle.events.specs.Told.{Ops, deltaOps, tellAll, begun}
 
 -- what the walks need of a sound sheet

@@ -1,6 +1,6 @@
 // The units that an event inserts, one text after the other.
-use crate::runs::Sight;
-use crate::runs::seen_by;
+use assembling::runs::Sight;
+use assembling::runs::seen_by;
 use items::head::Head;
 use items::word::Content;
 use items::word::unpack;

@@ -1,7 +1,4 @@
 // The event: what the current transaction did, as operations over the text that stood before it.
-pub mod runs; // the run that grows
-pub mod marks; // what a mark changes
-pub mod assembler; // what an item does to all of it
 pub mod telling; // operations told one after the other into lent numbers
 pub mod walk; // the walks over the items
 pub mod fill; // the units that are inserted

@@ -1,11 +1,11 @@
 // The walk of an event over the items, by the links.
-use crate::assembler::Assembler;
-use crate::assembler::add_op;
-use crate::assembler::pass;
-use crate::runs::inserted;
-use crate::runs::seen_by;
 use crate::telling::Count;
 use crate::telling::tell;
+use assembling::assembler::Assembler;
+use assembling::assembler::add_op;
+use assembling::assembler::pass;
+use assembling::runs::inserted;
+use assembling::runs::seen_by;
 use items::head::Head;
 use items::word::unpack;
 ghost use mathlib.Core.Path.{_≡_};

@@ -14,9 +14,9 @@ use attrs::Attrs;
 use edits::format::insert_format;
 use edits::insert::insert;
 use edits::insert::insert_plain;
-use edits::remove::remove_here;
 use items::head::Head;
 use items::word::Content;
+use removal::remove_here;
 
 // The attribute set lies beside it.
 pub enum Change {

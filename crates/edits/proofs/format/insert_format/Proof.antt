@@ -3,17 +3,17 @@ use native.Mathlib.Omega.{arith}
 use Rattle.attrs.specs.Packed.{says}
 use Rattle.rules.specs.Edits.{walking}
 use Rattle.arena.proofs.Carried.{going-done}
-use Rattle.edits.proofs.Opens.{settled-carried}
-use Rattle.edits.proofs.Opens.{opens-room}
+use Rattle.marks.proofs.Opens.{settled-carried}
+use Rattle.marks.proofs.Opens.{opens-room}
 use borrow.Author.Needs.{needs}
 use Rattle.edits.proofs.format.insert_format.Statement.{statement}
 use Rattle.edits.proofs.format.insert_format.Tie as tie
 use Rattle.edits.proofs.format.insert_format.Reads as reads
 use Rattle.edits.proofs.format.insert_format.Lts as lts
 use Rattle.edits.proofs.format.walk.Reads as walk-reads
-use Rattle.edits.proofs.marks.insert_attributes.Reads as insert-attributes-reads
-use Rattle.edits.proofs.marks.insert_negated_attributes.Reads as insert-negated-attributes-reads
-use Rattle.edits.proofs.marks.minimize_attr_changes.Reads as minimize-attr-changes-reads
+use Rattle.marks.proofs.insert_attributes.Reads as insert-attributes-reads
+use Rattle.marks.proofs.insert_negated_attributes.Reads as insert-negated-attributes-reads
+use Rattle.marks.proofs.minimize_attr_changes.Reads as minimize-attr-changes-reads
 
 minimize-attr-changes-requires : tie.Need-minimize-attr-changes-requires
 minimize-attr-changes-requires c κs = search needs

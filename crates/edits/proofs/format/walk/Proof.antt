@@ -11,7 +11,7 @@ use Rattle.arena.proofs.Carried.{going-start}
 use Rattle.arena.proofs.Standing.{right-lt, neat-here}
 use Rattle.arena.proofs.Steps.{forward-carried, cut-more}
 use Rattle.edits.proofs.Formats.{walked-end, walked-stop, walked-cut, walked-on, cut-means, halving-room, lt-killed}
-use Rattle.edits.proofs.Rooms.{carried-room}
+use Rattle.marks.proofs.Rooms.{carried-room}
 use Rattle.edits.proofs.format.walk.Statement.{statement}
 use Rattle.edits.proofs.format.walk.Tie as tie
 use Rattle.edits.proofs.format.walk.Reads as reads

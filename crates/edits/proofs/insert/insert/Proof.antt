@@ -1,8 +1,8 @@
 -- `edits::insert::insert` meets its contract. Assumes nothing.
 use native.Mathlib.Omega.{arith}
 use Rattle.edits.proofs.Inserts.{insert-carried}
-use Rattle.edits.proofs.Opens.{opens-room}
-use Rattle.edits.proofs.Rooms.{carried-next}
+use Rattle.marks.proofs.Opens.{opens-room}
+use Rattle.marks.proofs.Rooms.{carried-next}
 use borrow.Author.Needs.{needs}
 use Rattle.edits.proofs.insert.insert.Statement.{statement}
 use Rattle.edits.proofs.insert.insert.Tie as tie

@@ -2,7 +2,7 @@
 use native.Mathlib.Omega.{arith}
 use Rattle.rules.proofs.Room.{place-next}
 use Rattle.arena.proofs.Carried.{carried-then}
-use Rattle.edits.proofs.Rooms.{carried-room}
+use Rattle.marks.proofs.Rooms.{carried-room}
 use Rattle.attrs.specs.Packed.{says}
 use Rattle.sheet.specs.Changes.{moveOf}
 use Rattle.sheet.proofs.Works.{worked}

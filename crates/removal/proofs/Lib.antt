@@ -1,0 +1,4 @@
+pub mod Deletes
+pub mod Gaps
+pub mod Removes
+pub mod Tidies
