@@ -1,6 +1,5 @@
 // The place at an index.
 ghost use mathlib.Core.Path.{_≡_};
-ghost use mathlib.Core.Bool.{cond};
 ghost use Prim.Native.Nat.{_<_};
 ghost use Rattle.rules.specs.Sheet.{width};
 ghost use Rattle.items.specs.Word.{whatOf};
@@ -9,9 +8,9 @@ use crate::At;
 use crate::Place;
 use crate::forward;
 use crate::writes::split;
+use items::calls::shown_len;
 use items::head::Head;
 use items::word::Content;
-use items::word::Item;
 use items::word::unpack;
 
 // How many units long.
@@ -23,17 +22,6 @@ pub fn width(c: Content) -> u32
         Content::Embed(_) => 1,
         Content::Mark { key: _, value: _ } => 0,
     }
-}
-
-// What an item uses of an index: only live ones do.
-pub fn uses(it: Item) -> u32
-    ensures { λ r. ⌜ r ≡ cond (it .dead) 0 (width (whatOf (it .content))) ⌝ }
-{
-    if it.dead {
-        return 0;
-    }
-    let c = it.content;
-    width(c)
 }
 
 // The place at an index, from the first item on. A text that the index ends in is split there.
@@ -49,7 +37,7 @@ pub fn find_position(h: Head, items: &mut [u64], index: u32) -> At
         }
         let i = p.right as usize;
         let it = unpack(items[i]);
-        let w = uses(it);
+        let w = shown_len(it);
         if rest < w {
             let cut = split(h, items, p, rest);
             let head = cut.head;

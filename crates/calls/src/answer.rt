@@ -30,7 +30,7 @@ fn say_part(units: &[u16], start: u32, len: u32) {
 
 fn say_text(h: Head, items: &[u64], units: &[u16], run: Run) {
     let mut text = [0u16; 16384];
-    runs::text::text_of_range(h, items, units, run.start, run.len, &mut text);
+    ranges::text_of_range(h, items, units, run.start, run.len, &mut text);
     say(b"t");
     say_part(&text, 0, run.len);
 }

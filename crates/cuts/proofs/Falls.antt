@@ -11,9 +11,10 @@ use Rattle.rules.specs.Sheet.{What, text, embed, mark}
 use Rattle.rules.specs.Places.{uses}
 use Rattle.rules.specs.Sound.{AllFit, Fits}
 use Rattle.items.specs.Word.{whatOf, unpackOf}
+use Rattle.items.specs.Calls.{shownLen}
 use Rattle.items.specs.Chain.{itemAt, nextAt, chain}
 use Rattle.items.proofs.Links.{chain-step}
-use Rattle.cuts.specs.Cuts.{usedBy, cutsPiece, cutAt, Lies}
+use Rattle.cuts.specs.Cuts.{cutsPiece, cutAt, Lies}
 
 lies : (n : ℕ) (w : What) → Fits n w → Lies n w
 lies n (text s l) f = f .1
@@ -22,13 +23,13 @@ lies n (mark k v) f = tt
 
 module _ (us m : List ℕ) (k s n : ℕ) (more : 0 < k) where
   -- what the code counts of an item is what the rules count
-  pub falls-in : n < usedBy (unpackOf (getD m s 0) .dead) (unpackOf (getD m s 0) .content) → cutAt us n (chain k m s) ≡ cutsPiece us (whatOf (unpackOf (getD m s 0) .content)) n
-  unfolding cutAt usedBy
+  pub falls-in : n < shownLen (unpackOf (getD m s 0) .dead) (whatOf (unpackOf (getD m s 0) .content)) → cutAt us n (chain k m s) ≡ cutsPiece us (whatOf (unpackOf (getD m s 0) .content)) n
+  unfolding cutAt
   falls-in h = rw (chain-step k m s more, lt-ltb n _ h)
 
-  pub falls-past : usedBy (unpackOf (getD m s 0) .dead) (unpackOf (getD m s 0) .content) ≤ n
-      → cutAt us n (chain k m s) ≡ cutAt us (n - usedBy (unpackOf (getD m s 0) .dead) (unpackOf (getD m s 0) .content)) (chain (k - 1) m (nextAt m s))
-  unfolding cutAt usedBy
+  pub falls-past : shownLen (unpackOf (getD m s 0) .dead) (whatOf (unpackOf (getD m s 0) .content)) ≤ n
+      → cutAt us n (chain k m s) ≡ cutAt us (n - shownLen (unpackOf (getD m s 0) .dead) (whatOf (unpackOf (getD m s 0) .content))) (chain (k - 1) m (nextAt m s))
+  unfolding cutAt
   falls-past h = rw (chain-step k m s more, le-ltb n _ h)
 
   pub lies-here : AllFit (length us) (chain k m s) → Lies (length us) (whatOf (unpackOf (getD m s 0) .content))

@@ -16,10 +16,6 @@ use Rattle.items.specs.Memory.{listOf}
 use Rattle.items.specs.declared.head.Head.{Head}
 use Rattle.items.specs.declared.word.Content.{Content}
 
--- What an item of the code uses of an index: its width while it is live.
-unfoldable pub usedBy : Bool → Content → ℕ
-usedBy d c = cond d 0 (width (whatOf c))
-
 -- Does the count n cut a pair of this piece?
 abbrev pub cutsPiece : List ℕ → What → ℕ → Bool
 cutsPiece us (text s w) n = splitsPair (take w (drop s us)) n

@@ -5,25 +5,11 @@ ghost use Rattle.units.specs.Surrogates.{splitsPair};
 ghost use Rattle.rules.specs.Calls.{visibleUnits};
 ghost use Rattle.items.specs.Word.{whatOf};
 ghost use Rattle.items.specs.Memory.{listOf};
-ghost use Rattle.cuts.specs.Cuts.{usedBy, cutsPiece, Lies, Readable};
+ghost use Rattle.cuts.specs.Cuts.{cutsPiece, Lies, Readable};
+use items::calls::shown_len;
 use items::head::Head;
 use items::word::Content;
-use items::word::Item;
 use items::word::unpack;
-
-pub fn used_by(it: Item) -> u32
-    ensures { λ r. ⌜ r ≡ usedBy (it .dead) (it .content) ⌝ }
-{
-    if it.dead {
-        return 0;
-    }
-    let c = it.content;
-    match c {
-        Content::Text { start: _, len } => len,
-        Content::Embed(_) => 1,
-        Content::Mark { key: _, value: _ } => 0,
-    }
-}
 
 fn cuts_piece(c: Content, used: &[u16], index: u32) -> bool
     requires { ⌜ Lies (length (now used)) (whatOf c) ⌝ }
@@ -51,7 +37,7 @@ pub fn cuts_pair(h: Head, items: &[u64], used: &[u16], index: u64) -> bool
     while k > 0 {
         let i = at as usize;
         let it = unpack(items[i]);
-        let w = used_by(it) as u64;
+        let w = shown_len(it) as u64;
         if rest < w {
             let c = it.content;
             return cuts_piece(c, used, rest as u32);

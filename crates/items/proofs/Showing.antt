@@ -2,12 +2,12 @@
 use Prim.Native.Nat.{ℕ, zero, suc, _+_, _-_, _<_, _≤_}
 use native.Mathlib.Nat.{add-sub-cancel-left}
 use native.Mathlib.Omega.{arith}
-use mathlib.Core.Path.{_≡_, sym, ap, _∙_}
-use mathlib.Core.Bool.{Bool, true, false}
+use mathlib.Core.Path.{_≡_, refl, sym, ap, _∙_}
+use mathlib.Core.Bool.{Bool, true, false, cond, not}
 use mathlib.Core.List.{List, [], _∷_}
 use lib.ListN.{length, getD, take, drop}
 use borrow.Author.Tests.{lt-ltb, le-ltb}
-use Rattle.rules.specs.Sheet.{What, text, embed, mark, Item}
+use Rattle.rules.specs.Sheet.{What, text, embed, mark, width, Item}
 use Rattle.rules.specs.Sound.{held}
 use Rattle.rules.specs.Reading.{visible}
 use Rattle.items.specs.declared.head.Head.{Head}
@@ -23,8 +23,12 @@ use Rattle.items.proofs.Soundness.{held-cons, piece-parts, word-parts, 
 use Rattle.items.proofs.Models.{sound-word}
 
 -- ---- the length
+shown-is : (d : Bool) (w : What) → cond (not d) (width w) 0 ≡ shownLen d w
+shown-is true w = refl
+shown-is false w = refl
+
 pub visible-step : (k : ℕ) (m : List ℕ) (s : ℕ) → 0 < k → visible (chain k m s) ≡ shownLen (itemAt m s .flags .dead) (itemAt m s .what) + visible (chain (k - 1) m (nextAt m s))
-visible-step k m s h = ap visible (chain-step k m s h)
+visible-step k m s h = ap visible (chain-step k m s h) ∙ ap (λ (n : ℕ). n + visible (chain (k - 1) m (nextAt m s))) (shown-is (itemAt m s .flags .dead) (itemAt m s .what))
 
 pub visible-end : (k : ℕ) (m : List ℕ) (s n : ℕ) → k ≤ 0 → n + visible (chain k m s) ≡ n
 unfolding chain
@@ -34,7 +38,7 @@ visible-end (suc k) m s n h = absurd (omega arith)
 -- at most the texts' units, and one for each item
 visible-le : (l : List Item) → visible l ≤ held l + length l
 visible-le [] = omega arith
-visible-le (i ∷ l) = omega (arith, one (i .flags .dead) (i .what), held-cons i l, visible-le l)
+visible-le (i ∷ l) = omega (arith, shown-is (i .flags .dead) (i .what), one (i .flags .dead) (i .what), held-cons i l, visible-le l)
   where
     one : (d : Bool) (w : What) → shownLen d w ≤ lenOf w + 1
     one true w = omega arith

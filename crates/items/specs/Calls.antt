@@ -1,6 +1,6 @@
 -- What the calls that read, and begin, answer.
 use Prim.Native.Nat.{ℕ, zero, suc}
-use mathlib.Core.Bool.{Bool, false, cond, not}
+use mathlib.Core.Bool.{Bool, false, cond}
 use mathlib.Core.List.{List, []}
 use lib.ListN.{getD, set, take, drop}
 use lib.Dec.{ltb}
@@ -28,7 +28,7 @@ sweepTo e (suc i) m = set (sweepTo e i m) i (e (getD m i 0))
 
 -- What an item adds to the visible length.
 abbrev pub shownLen : Bool → What → ℕ
-shownLen dead w = cond (not dead) (width w) 0
+shownLen dead w = cond dead 0 (width w)
 
 -- The visible length; 0 beside a refusal.
 unfoldable pub lengthOf : Head → List ℕ → List ℕ → Length

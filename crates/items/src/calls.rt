@@ -62,7 +62,8 @@ pub fn begin(h: Head, items: &mut [u64], units: &[u16]) -> Answer
     }
 }
 
-fn shown_len(it: Item) -> u32
+// What an item adds to the visible length.
+pub fn shown_len(it: Item) -> u32
     ensures { λ r. ⌜ r ≡ shownLen (it .dead) (whatOf (it .content)) ⌝ }
 {
     if it.dead {

@@ -12,11 +12,11 @@ ghost use Rattle.arena.specs.Writes.{killMem};
 ghost use Rattle.removal.specs.Tidies.{idleItem, deleting, ending, tidyFirst, tidying, deleteTidy};
 use arena::At;
 use arena::Place;
-use arena::find::uses;
 use arena::forward;
 use arena::writes::delete;
 use arena::writes::split;
 use attrs::Attrs;
+use items::calls::shown_len;
 use items::head::Head;
 use items::word::Content;
 use items::word::unpack;
@@ -45,7 +45,7 @@ fn delete_units(h: Head, items: &mut [u64], p: Place, len: u32) -> At
         let right = at.right;
         let i = right as usize;
         let it = unpack(items[i]);
-        let w = uses(it);
+        let w = shown_len(it);
         if rest < w {
             let cut = split(h, items, at, rest);
             let head = cut.head;

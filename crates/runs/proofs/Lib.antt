@@ -7,5 +7,3 @@ pub mod Fronts
 pub mod Fills
 pub mod Steps
 pub mod Lent
-pub mod Texts
-pub mod Ranges

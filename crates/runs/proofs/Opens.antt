@@ -12,10 +12,11 @@ use Rattle.rules.specs.Sheet.{What, text, embed, mark, Item}
 use Rattle.rules.specs.Reading.{live, passKey, Glyph, unit, unitsOf, glyphs}
 use Rattle.rules.specs.Sound.{Fits}
 use Rattle.rules.specs.Runs.{Run as Stretch, object, runsFrom, ahead, joined}
+use Rattle.items.specs.Calls.{shownLen}
 use Rattle.runs.specs.declared.run.Run.{Run}
 use Rattle.runs.specs.declared.cursor.Spot.{Spot}
 use Rattle.runs.specs.Records.{recordsOf, runsBy}
-use Rattle.runs.specs.Cursors.{markOn, passedBy, widthBy, stopsAt, endsBy, rest, recordsAt, Plain, Stands, textRecord}
+use Rattle.runs.specs.Cursors.{markOn, passedBy, stopsAt, endsBy, rest, recordsAt, Plain, Stands, textRecord}
 use Rattle.runs.proofs.Merges.{stretch, same-refl, ahead-ahead, open-ahead}
 use Rattle.runs.proofs.Forces.{env-passed, same-plain, same-is}
 use Rattle.runs.proofs.Spots.{here, next, rest-next, rest-none, steps, text-record, length-units}
@@ -107,8 +108,8 @@ pub record Open (j : Bool) (m : List ℕ) (f : Attrs) (a : ℕ) (s : Spot) (answ
   pub kept : j ≡ false → f ≡ s .force
   pub same : recordsOf a (opened j (first ∷ others) (envOf f) (envOf (s .force)) (rest m s)) ≡ answer
 
-seen-long : (d : Bool) (w : What) → length (seenOf d w) ≡ widthBy d w
-unfolding seenOf widthBy
+seen-long : (d : Bool) (w : What) → length (seenOf d w) ≡ shownLen d w
+unfolding seenOf
 seen-long true w = refl
 seen-long false (text a n) = length-units a n
 seen-long false (embed x) = refl

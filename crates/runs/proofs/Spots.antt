@@ -19,6 +19,7 @@ use Rattle.items.specs.declared.word.Content.{Content}
 use Rattle.items.specs.declared.word.Content.the-variants.{Text, Embed, Mark}
 use Rattle.items.proofs.word.Content.{the-type}
 use Rattle.items.specs.declared.word.Item.{Item as Entry}
+use Rattle.items.specs.Calls.{shownLen}
 use Rattle.items.specs.Word.{whatOf, unpackOf}
 use Rattle.items.specs.Chain.{chain, itemAt, nextAt}
 use Rattle.items.proofs.Links.{walks-lt, walks-next, chain-step}
@@ -26,7 +27,7 @@ use Rattle.runs.specs.declared.run.Run.{Run}
 use Rattle.runs.specs.declared.cursor.Spot.{Spot}
 use Rattle.runs.specs.declared.cursor.Cursor.{Cursor}
 use Rattle.runs.specs.Records.{recordOf, recordsOf, runsBy}
-use Rattle.runs.specs.Cursors.{passesOf, markOn, passedBy, widthBy, pastOf, rest, recordsAt, Plain, Stands, textRecord, embedRecord, Skipped, Gathered, Next}
+use Rattle.runs.specs.Cursors.{passesOf, markOn, passedBy, pastOf, rest, recordsAt, Plain, Stands, textRecord, embedRecord, Skipped, Gathered, Next}
 use Rattle.runs.proofs.Forces.{plain-passed, env-passed, count-plain}
 
 -- the item at a place, and the place behind it
@@ -54,11 +55,10 @@ pub record Stepped (m : List ℕ) (s : Spot) : Type 0 where
   pub below : s .at < length m
   pub used : ℕ
   pub fits : Fits used (here m s .what)
-  pub sum : s .passed + widthBy (here m s .flags .dead) (here m s .what) < 4294967296
+  pub sum : s .passed + shownLen (here m s .flags .dead) (here m s .what) < 4294967296
   pub stands : Stands m (next m s)
 
 pub steps : (m : List ℕ) (s : Spot) → Stands m s → 0 < s .todo → Stepped m s
-unfolding widthBy
 steps m s st h =
     let cut = rest-next m s h in
     let fit : AllFit (st .used) (here m s ∷ rest m (next m s)) = subst (AllFit (st .used)) cut (st .fit) in
@@ -94,8 +94,8 @@ pass-runs i e l = go (i .flags .dead) (i .what)
     go false (embed x) p = absurd (true≢false (sym p))
     go false (mark k v) p = refl
 
-pass-width : (d : Bool) (w : What) → passesOf d w ≡ true → widthBy d w ≡ 0
-unfolding passesOf widthBy
+pass-width : (d : Bool) (w : What) → passesOf d w ≡ true → shownLen d w ≡ 0
+unfolding passesOf
 pass-width true w p = refl
 pass-width false (text s n) p = absurd (true≢false (sym p))
 pass-width false (embed x) p = absurd (true≢false (sym p))
@@ -108,7 +108,7 @@ skip-turn j m s st h p =
     let t = steps m s st h in
     let w = pass-width (here m s .flags .dead) (here m s .what) p in
     let e = env-passed (s .force) (t .used) (here m s) (t .fits) in
-    let same : s .passed + widthBy (here m s .flags .dead) (here m s .what) ≡ s .passed = omega arith in
+    let same : s .passed + shownLen (here m s .flags .dead) (here m s .what) ≡ s .passed = omega arith in
     ap (λ (l : List Item). recordsOf (s .passed) (runsBy j (runsFrom [] (envOf (s .force)) l))) (rest-next m s h)
     ∙ ap (λ (l : List Stretch). recordsOf (s .passed) (runsBy j l)) (pass-runs (here m s) (envOf (s .force)) (rest m (next m s)) p)
     ∙ ap₂ (λ (n : ℕ) (f : Env). recordsOf n (runsBy j (runsFrom [] f (rest m (next m s))))) (sym same) (sym e)
@@ -153,9 +153,9 @@ live-item i w d e =
 module _ (m : List ℕ) (s : Spot) (w : What) (awake : here m s .flags .dead ≡ false) (is : here m s .what ≡ w) where
   -- the place behind it
   pub next-live : next m s ≡ record { at = nextAt m (s .at); todo = s .todo - 1; passed = s .passed + width w; force = markOn (s .force) w }
-  unfolding widthBy passedBy
+  unfolding passedBy
   next-live =
-      ap₂ (λ (x : Bool) (y : What). record { at = nextAt m (s .at); todo = s .todo - 1; passed = s .passed + widthBy x y; force = passedBy (s .force) x y }) awake is
+      ap₂ (λ (x : Bool) (y : What). record { at = nextAt m (s .at); todo = s .todo - 1; passed = s .passed + shownLen x y; force = passedBy (s .force) x y }) awake is
 
   pub rest-live : 0 < s .todo
       → rest m s ≡ record { num = s .at; what = w; flags = record { dead = false; added = here m s .flags .added; gone = here m s .flags .gone } } ∷ rest m (next m s)

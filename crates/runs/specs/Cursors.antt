@@ -11,6 +11,7 @@ use Rattle.rules.specs.Sheet.{What, text, embed, mark, width, isMark, Item}
 use Rattle.rules.specs.Reading.{visible, Glyph}
 use Rattle.rules.specs.Runs.{runsFrom}
 use Rattle.rules.specs.Sound.{AllFit}
+use Rattle.items.specs.Calls.{shownLen}
 use Rattle.items.specs.declared.word.Item.{Item as Entry}
 use Rattle.items.specs.declared.head.Head.{Head}
 use Rattle.items.specs.Word.{whatOf}
@@ -35,10 +36,6 @@ markOn a (mark k v) = updateAt a k v .attrs
 unfoldable pub passedBy : Attrs → Bool → What → Attrs
 passedBy a d w = cond d a (markOn a w)
 
--- Its visible units.
-unfoldable pub widthBy : Bool → What → ℕ
-widthBy d w = cond d 0 (width w)
-
 -- Does it end a text run: a text on which something else is in force, an embed, and a mark unless runs are joined.
 unfoldable pub stopsAt : Bool → Bool → What → Bool
 stopsAt j same (text s n) = not same
@@ -53,7 +50,7 @@ pastOf s it =
     record {
       at = it .next;
       todo = s .todo - 1;
-      passed = s .passed + widthBy (it .dead) (whatOf (it .content));
+      passed = s .passed + shownLen (it .dead) (whatOf (it .content));
       force = passedBy (s .force) (it .dead) (whatOf (it .content));
     }
 

@@ -2,4 +2,3 @@ pub mod Records
 pub mod Cursors
 pub mod Answers
 pub mod Fills
-pub mod Texts

@@ -1,14 +1,16 @@
 // The next run, from a place in the list: by value, so that whoever reads on goes on where the run before ended.
 use crate::run::Run;
 use attrs::Attrs;
+use items::calls::shown_len;
 use items::head::Head;
 use items::word::Content;
 use items::word::Item;
 use items::word::unpack;
 ghost use mathlib.Core.Path.{_≡_};
 ghost use Prim.Native.Nat.{_+_, _<_};
+ghost use Rattle.items.specs.Calls.{shownLen};
 ghost use Rattle.items.specs.Word.{whatOf};
-ghost use Rattle.runs.specs.Cursors.{passesOf, markOn, passedBy, widthBy, stopsAt, endsBy, pastOf, textRecord, embedRecord, startOf, Stands, Skipped, Gathered, Next};
+ghost use Rattle.runs.specs.Cursors.{passesOf, markOn, passedBy, stopsAt, endsBy, pastOf, textRecord, embedRecord, startOf, Stands, Skipped, Gathered, Next};
 
 // A place in the list: the next item and how many are left with it, the visible units to its left, and what is in force there.
 pub struct Spot {
@@ -79,21 +81,6 @@ fn passed(force: Attrs, it: Item) -> Attrs
     mark_on(force, c)
 }
 
-// How many visible units an item has.
-pub fn width(it: Item) -> u32
-    ensures { λ r. ⌜ r ≡ widthBy (it .dead) (whatOf (it .content)) ⌝ }
-{
-    if it.dead {
-        return 0;
-    }
-    let c = it.content;
-    match c {
-        Content::Text { start: _, len } => len,
-        Content::Embed(_) => 1,
-        Content::Mark { key: _, value: _ } => 0,
-    }
-}
-
 fn stops(joined: bool, same: bool, c: Content) -> bool
     ensures { λ r. ⌜ r ≡ stopsAt joined same (whatOf c) ⌝ }
 {
@@ -118,7 +105,7 @@ fn ends(joined: bool, run: Attrs, force: Attrs, it: Item) -> bool
 // The place behind its item.
 fn past(s: Spot, it: Item) -> Spot
     requires { ⌜ 0 < s .todo ⌝ }
-    requires { ⌜ s .passed + widthBy (it .dead) (whatOf (it .content)) < 4294967296 ⌝ }
+    requires { ⌜ s .passed + shownLen (it .dead) (whatOf (it .content)) < 4294967296 ⌝ }
     ensures { λ r. ⌜ r ≡ pastOf s it ⌝ }
 {
     let before = s.force;
@@ -126,7 +113,7 @@ fn past(s: Spot, it: Item) -> Spot
     Spot {
         at: it.next,
         todo: s.todo - 1,
-        passed: s.passed + width(it),
+        passed: s.passed + shown_len(it),
         force,
     }
 }

@@ -151,7 +151,7 @@ fn wide(unit: u16) -> u32 {
 // The refusal, how many units are written, and what the four lent ones hold then.
 fn copied(h: Head, items: &[u64], units: &[u16], index: u32, out: [u16; 4]) -> [u16; 4] {
     let mut lent = out;
-    let a = runs::text::text_of_range(h, items, units, index, 9, &mut lent);
+    let a = ranges::text_of_range(h, items, units, index, 9, &mut lent);
     number(a.refusal);
     number(narrow(a.count));
     number(wide(lent[0]));
@@ -164,7 +164,7 @@ fn copied(h: Head, items: &[u64], units: &[u16], index: u32, out: [u16; 4]) -> [
 
 fn one_short(h: Head, items: &[u64], units: &[u16], index: u32) {
     let mut lent = [9u16; 3];
-    let a = runs::text::text_of_range(h, items, units, index, 9, &mut lent);
+    let a = ranges::text_of_range(h, items, units, index, 9, &mut lent);
     number(a.refusal);
     number(narrow(a.count));
     number(wide(lent[0]));

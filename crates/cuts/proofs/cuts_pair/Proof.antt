@@ -17,7 +17,7 @@ use Rattle.cuts.proofs.cuts_pair.Tie as tie
 use Rattle.cuts.proofs.cuts_pair.Reads as reads
 use Rattle.cuts.proofs.cuts_pair.Lts as lts
 use Rattle.cuts.proofs.cuts_piece.Reads as cuts-piece-reads
-use Rattle.cuts.proofs.used_by.Reads as used-by-reads
+use Rattle.items.proofs.calls.shown_len.Reads as shown-len-reads
 use Rattle.items.proofs.word.unpack.Reads as unpack-reads
 
 abbrev Inv-loop : tie.InvT-loop
@@ -49,8 +49,8 @@ shared-slice-read-unpack c = omega (arith, inside (c .before))
 unpack-requires : tie.Need-unpack-requires Inv-loop μ-loop
 unpack-requires c κs = search needs
 
-used-by-requires : tie.Need-used-by-requires Inv-loop μ-loop
-used-by-requires c κs = search needs
+shown-len-requires : tie.Need-shown-len-requires Inv-loop μ-loop
+shown-len-requires c κs = search needs
 
 cast-w : tie.Need-cast-w Inv-loop μ-loop
 cast-w c = search needs
@@ -68,7 +68,7 @@ returns c =
     let b = c .before in
     let l = b .before .before .before .before .before in
     let a = l .before .before .before in
-    let w = rw (b .before .used-by .ensures, b .before .before .unpack .ensures) at (b .if1 .taken) in
+    let w = rw (b .before .shown-len .ensures, b .before .before .unpack .ensures) at (b .if1 .taken) in
     let e = rw (b .before .before .unpack .ensures) at (c .cuts-piece .ensures) in
     e ∙ sym (falls-in _ _ _ _ _ (b .before .before .before .before .loop-test .taken) w) ∙ l .loop .inv .3 ∙ sym (seam _ _ _ (a .pre .fit) (a .pre .pairs))
 
@@ -82,8 +82,8 @@ loop-again : tie.Need-loop-again Inv-loop μ-loop
 loop-again c =
     let l = c .before .before .before .before .before in
     let more = c .before .before .before .before .loop-test .taken in
-    let w = rw (c .before .used-by .ensures, c .before .before .unpack .ensures) at (c .if1 .left) in
-    rw (c .before .used-by .ensures, c .before .before .unpack .ensures) (
+    let w = rw (c .before .shown-len .ensures, c .before .before .unpack .ensures) at (c .if1 .left) in
+    rw (c .before .shown-len .ensures, c .before .before .unpack .ensures) (
       omega arith,
       walks-next _ _ _ _ more (l .loop .inv .1),
       fits-on (now (l .before .before .before .args .used)) (now (l .before .before .before .args .items)) (l .loop .k) (l .loop .at) 0 more (l .loop .inv .2),
@@ -106,7 +106,7 @@ cuts-pair-spec =
     mul-unpack
     shared-slice-read-unpack
     unpack-requires
-    used-by-requires
+    shown-len-requires
     cast-w
     cast-cuts-piece
     cuts-piece-requires

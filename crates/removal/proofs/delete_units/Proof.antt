@@ -44,14 +44,14 @@ slice-read-unpack c = inside (c .before .before) .1
 unpack-requires : tie.Need-unpack-requires Inv-loop μ-loop
 unpack-requires c κs = search needs
 
-uses-requires : tie.Need-uses-requires Inv-loop μ-loop
-uses-requires c κs = search needs
+shown-len-requires : tie.Need-shown-len-requires Inv-loop μ-loop
+shown-len-requires c κs = search needs
 
 split-requires : tie.Need-split-requires Inv-loop μ-loop
 split-requires c κs =
     let used = c .before .before in
     let t = used .before .before .before .before in
-    let w = rw (used .uses .ensures, used .before .unpack .ensures) at (c .before .if3 .taken) in
+    let w = rw (used .shown-len .ensures, used .before .unpack .ensures) at (c .before .if3 .taken) in
     cuttable (t .before .before .loop .inv) (t .if1 .taken) (used .before .before .before .if2 .left) w (t .before .before .before .before .pre .1)
 
 delete-requires : tie.Need-delete-requires Inv-loop μ-loop
@@ -77,7 +77,7 @@ returns-2 c =
     let cut = c .before .before .before .before .before .before .before .before .before .before in
     let used = cut .before .before .before in
     let t = used .before .before .before .before in
-    let w = rw (used .uses .ensures, used .before .unpack .ensures) at (cut .before .before .if3 .taken) in
+    let w = rw (used .shown-len .ensures, used .before .unpack .ensures) at (cut .before .before .if3 .taken) in
     deleted-cut (t .before .before .loop .inv) (t .if1 .taken) (used .before .before .before .if2 .left) w (cut .split .ensures) _ (c .before .before .before .before .delete .ensures) _ (c .forward .ensures)
 
 delete-if-requires : tie.Need-delete-if-requires Inv-loop μ-loop
@@ -95,9 +95,9 @@ loop-again : tie.Need-loop-again Inv-loop μ-loop
 loop-again c =
     let used = c .before .before .before .before .before .before .before in
     let t = used .before .before .before .before in
-    let w = rw (used .uses .ensures, used .before .unpack .ensures) at (c .before .before .before .before .before .before .if3 .left) in
-    let done = rw (used .uses .ensures, used .before .unpack .ensures) at (c .before .before .before .before .delete-if .ensures) in
-    rw (used .uses .ensures, used .before .unpack .ensures) (
+    let w = rw (used .shown-len .ensures, used .before .unpack .ensures) at (c .before .before .before .before .before .before .if3 .left) in
+    let done = rw (used .shown-len .ensures, used .before .unpack .ensures) at (c .before .before .before .before .delete-if .ensures) in
+    rw (used .shown-len .ensures, used .before .unpack .ensures) (
     deleted-past (t .before .before .loop .inv) (t .if1 .taken) (used .before .before .before .if2 .left) w _ done _ (c .forward2 .ensures)
     )
 
@@ -120,7 +120,7 @@ delete-units-spec =
     mul-unpack
     slice-read-unpack
     unpack-requires
-    uses-requires
+    shown-len-requires
     split-requires
     delete-requires
     forward-requires

@@ -46,14 +46,14 @@ slice-read-unpack c = inside (c .before .before .before) .1
 unpack-requires : tie.Need-unpack-requires Inv-loop μ-loop
 unpack-requires c κs = search needs
 
-uses-requires : tie.Need-uses-requires Inv-loop μ-loop
-uses-requires c κs = search needs
+shown-len-requires : tie.Need-shown-len-requires Inv-loop μ-loop
+shown-len-requires c κs = search needs
 
 split-requires : tie.Need-split-requires Inv-loop μ-loop
 split-requires c κs =
     let used = c .before .before in
     let on = used .before .before .before .before .before in
-    let w = rw (used .uses .ensures, used .before .unpack .ensures) at (c .before .if3 .taken) in
+    let w = rw (used .shown-len .ensures, used .before .unpack .ensures) at (c .before .if3 .taken) in
     found-cuttable (on .before .before .loop .inv) (on .if1 .taken) (used .before .before .before .before .if2 .left) w (on .before .before .before .before .before .pre .1)
 
 forward-requires : tie.Need-forward-requires Inv-loop μ-loop
@@ -74,7 +74,7 @@ returns-2 c =
     let cut = c .before .before .before .before .before .before in
     let used = cut .before .before .before in
     let on = used .before .before .before .before .before in
-    let w = rw (used .uses .ensures, used .before .unpack .ensures) at (cut .before .before .if3 .taken) in
+    let w = rw (used .shown-len .ensures, used .before .unpack .ensures) at (cut .before .before .if3 .taken) in
     found-cut (on .before .before .loop .inv) (on .if1 .taken) (used .before .before .before .before .if2 .left) w (cut .split .ensures) _ (c .forward .ensures)
 
 forward-requires-2 : tie.Need-forward-requires-2 Inv-loop μ-loop
@@ -89,8 +89,8 @@ loop-again : tie.Need-loop-again Inv-loop μ-loop
 loop-again c =
     let used = c .before .before .before in
     let on = used .before .before .before .before .before in
-    let w = rw (used .uses .ensures, used .before .unpack .ensures) at (c .before .before .if3 .left) in
-    rw (used .uses .ensures, used .before .unpack .ensures) (
+    let w = rw (used .shown-len .ensures, used .before .unpack .ensures) at (c .before .before .if3 .left) in
+    rw (used .shown-len .ensures, used .before .unpack .ensures) (
     found-past (on .before .before .loop .inv) (on .if1 .taken) (used .before .before .before .before .if2 .left) w _ (c .forward2 .ensures)
     )
 
@@ -114,7 +114,7 @@ find-position-spec =
     mul-unpack
     slice-read-unpack
     unpack-requires
-    uses-requires
+    shown-len-requires
     split-requires
     forward-requires
     same-length-2

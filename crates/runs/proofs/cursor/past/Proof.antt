@@ -9,8 +9,8 @@ passed-requires c κs = search needs
 sub-t5 : tie.Need-sub-t5
 sub-t5 c = search needs
 
-width-requires : tie.Need-width-requires
-width-requires c κs = search needs
+shown-len-requires : tie.Need-shown-len-requires
+shown-len-requires c κs = search needs
 
 add-t7 : tie.Need-add-t7
 add-t7 c = search needs
@@ -19,4 +19,4 @@ returns : tie.Need-returns
 returns c = cc
 
 pub past-spec : {M : Type 1} → statement M
-past-spec = tie.close (tie.spec passed-requires sub-t5 width-requires add-t7 returns)
+past-spec = tie.close (tie.spec passed-requires sub-t5 shown-len-requires add-t7 returns)

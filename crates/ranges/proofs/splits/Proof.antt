@@ -1,13 +1,13 @@
--- `runs::text::splits` meets its contract. Assumes nothing.
+-- `ranges::splits` meets its contract. Assumes nothing.
 use native.Mathlib.Omega.{arith}
 use mathlib.Core.Path.{sym, ap, _∙_}
 use mathlib.Core.Bool.{Bool, _&&_}
 use Rattle.units.specs.Surrogates.{isLow}
-use Rattle.runs.proofs.Texts.{reads-at}
-use Rattle.runs.proofs.Ranges.{splits-start, splits-is}
+use Rattle.ranges.proofs.Texts.{reads-at}
+use Rattle.ranges.proofs.Ranges.{splits-start, splits-is}
 use borrow.Author.Needs.{needs}
-use Rattle.runs.proofs.text.splits.Statement.{statement}
-use Rattle.runs.proofs.text.splits.Tie as tie
+use Rattle.ranges.proofs.splits.Statement.{statement}
+use Rattle.ranges.proofs.splits.Tie as tie
 
 returns : tie.Need-returns
 returns c = splits-start _ _ _ _ (c .if1 .taken)

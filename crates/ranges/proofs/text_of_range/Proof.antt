@@ -1,4 +1,4 @@
--- `runs::text::text_of_range` meets its contract. Assumes nothing.
+-- `ranges::text_of_range` meets its contract. Assumes nothing.
 use Prim.Native.Nat.{ℕ, _-_, min}
 use mathlib.Core.Path.{_≡_, sym, ap, _∙_}
 use mathlib.Core.Bool.{true, false}
@@ -7,12 +7,12 @@ use borrow.Author.Needs.{needs}
 use Rattle.rules.specs.Reading.{visible}
 use Rattle.rules.specs.Calls.{badRange}
 use Rattle.items.specs.Memory.{listOf, soundOf}
-use Rattle.runs.specs.Texts.{visibleIn, textIn, showing}
+use Rattle.ranges.specs.Texts.{visibleIn, textIn, showing}
 use Rattle.runs.proofs.Fronts.{length-written}
-use Rattle.runs.proofs.Texts.{place}
-use Rattle.runs.proofs.Ranges.{length-broken, length-sound, text-long, reads-start, text-within, copied-broken, copied-pair, copied-short, copied-fits, pair-first, pair-last, pair-none}
-use Rattle.runs.proofs.text.text_of_range.Statement.{statement}
-use Rattle.runs.proofs.text.text_of_range.Tie as tie
+use Rattle.ranges.proofs.Texts.{place}
+use Rattle.ranges.proofs.Ranges.{length-broken, length-sound, text-long, reads-start, text-within, copied-broken, copied-pair, copied-short, copied-fits, pair-first, pair-last, pair-none}
+use Rattle.ranges.proofs.text_of_range.Statement.{statement}
+use Rattle.ranges.proofs.text_of_range.Tie as tie
 
 -- the sheet is sound
 ok : (c : tie.Else1) → (soundOf (c .before .before .before .before .before .before .args .h) (c .before .before .before .before .before .before .args .items .now) (c .before .before .before .before .before .before .args .units .now) ≡ true)

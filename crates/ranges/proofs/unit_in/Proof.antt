@@ -1,10 +1,10 @@
--- `runs::text::unit_in` meets its contract. Assumes nothing.
+-- `ranges::unit_in` meets its contract. Assumes nothing.
 use native.Mathlib.Omega.{arith}
-use Rattle.runs.specs.Texts.{unitIn}
-use Rattle.runs.proofs.Texts.{in-piece}
+use Rattle.ranges.specs.Texts.{unitIn}
+use Rattle.ranges.proofs.Texts.{in-piece}
 use borrow.Author.Needs.{needs}
-use Rattle.runs.proofs.text.unit_in.Statement.{statement}
-use Rattle.runs.proofs.text.unit_in.Tie as tie
+use Rattle.ranges.proofs.unit_in.Statement.{statement}
+use Rattle.ranges.proofs.unit_in.Tie as tie
 
 enum-known-c : tie.Need-enum-known-c
 enum-known-c c = search needs

@@ -17,12 +17,12 @@ use Rattle.items.specs.declared.word.Content.the-variants.{Text}
 use Rattle.items.specs.Word.{whatOf}
 use Rattle.items.specs.Chain.{chain, itemAt, nextAt}
 use Rattle.items.proofs.Links.{walks-lt, walks-next, chain-step}
-use Rattle.runs.specs.declared.text.Place.{Place}
-use Rattle.runs.specs.declared.text.Shown.{Shown}
-use Rattle.runs.specs.Cursors.{widthBy}
+use Rattle.ranges.specs.declared.Place.{Place}
+use Rattle.ranges.specs.declared.Shown.{Shown}
+use Rattle.items.specs.Calls.{shownLen}
 use Rattle.runs.specs.Answers.{written}
-use Rattle.runs.specs.Texts.{unitIn, showing, LiesIn, Reads, Given}
+use Rattle.ranges.specs.Texts.{unitIn, showing, LiesIn, Reads, Given}
 use Rattle.runs.proofs.Fronts.{written-more}
 
 -- ---- one item
 
@@ -40,8 +40,7 @@ length-piece : (u : List ℕ) (s n : ℕ) → length (map (unitAt u) (unitsOf s 
 length-piece u s zero = refl
 length-piece u s (suc n) = ap suc (length-piece u (suc s) n)
 
-pub length-shown : (u : List ℕ) (d : Bool) (w : What) → length (shownOf u d w) ≡ widthBy d w
-unfolding widthBy
+pub length-shown : (u : List ℕ) (d : Bool) (w : What) → length (shownOf u d w) ≡ shownLen d w
 length-shown u true w = refl
 length-shown u false (text s n) = length-piece u s n
 length-shown u false (embed x) = refl
@@ -54,16 +53,15 @@ piece-at u s (suc n) (suc k) l =
     let e : suc s + k ≡ s + suc k = omega arith in
     piece-at u (suc s) n k (omega arith) ∙ ap (λ (x : ℕ). getD u x 0) e
 
-shown-at : (u : List ℕ) (d : Bool) (w : What) (k : ℕ) → k < widthBy d w → getD (shownOf u d w) k 0 ≡ unitIn u w k
-unfolding widthBy unitIn
+shown-at : (u : List ℕ) (d : Bool) (w : What) (k : ℕ) → k < shownLen d w → getD (shownOf u d w) k 0 ≡ unitIn u w k
+unfolding unitIn
 shown-at u true w k l = absurd (omega arith)
 shown-at u false (text s n) k l = piece-at u s n k l
 shown-at u false (embed x) zero l = refl
 shown-at u false (embed x) (suc k) l = absurd (omega arith)
 shown-at u false (mark j v) k l = absurd (omega arith)
 
-pub width-of : (d : Bool) (w : What) (k : ℕ) → k < widthBy d w → k < width w
-unfolding widthBy
+pub width-of : (d : Bool) (w : What) (k : ℕ) → k < shownLen d w → k < width w
 width-of true w k l = absurd (omega arith)
 width-of false w k l = l
 
@@ -114,18 +112,18 @@ module _ (m u : List ℕ) (at todo off : ℕ) where
     shows-cons : visibleUnits u (chain todo m at) ≡ here ++ left
     shows-cons = ap (visibleUnits u) (chain-step todo m at some) ∙ shown-cons u (itemAt m at) (chain (todo - 1) m (nextAt m at))
 
-    long : length here ≡ widthBy (itemAt m at .flags .dead) (itemAt m at .what)
+    long : length here ≡ shownLen (itemAt m at .flags .dead) (itemAt m at .what)
     long = length-shown u (itemAt m at .flags .dead) (itemAt m at .what)
 
-    pub shows-pass : widthBy (itemAt m at .flags .dead) (itemAt m at .what) ≤ off
-        → showing m u (place at todo off) ≡ showing m u (place (nextAt m at) (todo - 1) (off - widthBy (itemAt m at .flags .dead) (itemAt m at .what)))
+    pub shows-pass : shownLen (itemAt m at .flags .dead) (itemAt m at .what) ≤ off
+        → showing m u (place at todo off) ≡ showing m u (place (nextAt m at) (todo - 1) (off - shownLen (itemAt m at .flags .dead) (itemAt m at .what)))
     unfolding showing
     shows-pass l =
-        let w = widthBy (itemAt m at .flags .dead) (itemAt m at .what) in
+        let w = shownLen (itemAt m at .flags .dead) (itemAt m at .what) in
         let e : off ≡ length here + (off - w) = omega (arith, long) in
         ap₂ drop e shows-cons ∙ drop-append-add here left (off - w)
 
-    pub shows-here : off < widthBy (itemAt m at .flags .dead) (itemAt m at .what)
+    pub shows-here : off < shownLen (itemAt m at .flags .dead) (itemAt m at .what)
         → showing m u (place at todo off) ≡ unitIn u (itemAt m at .what) off ∷ showing m u (place at todo (off + 1))
     unfolding showing
     shows-here l =

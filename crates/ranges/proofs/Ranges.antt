@@ -19,13 +19,13 @@ use Rattle.items.specs.Memory.{listOf, soundOf}
 use Rattle.items.specs.Calls.{lengthOf}
 use Rattle.items.proofs.Soundness.{sound-parts}
 use Rattle.items.proofs.Models.{model-sound, used-length}
-use Rattle.runs.specs.declared.text.Place.{Place}
-use Rattle.runs.specs.declared.text.Shown.{Shown}
-use Rattle.runs.specs.Cursors.{widthBy}
+use Rattle.ranges.specs.declared.Place.{Place}
+use Rattle.ranges.specs.declared.Shown.{Shown}
+use Rattle.items.specs.Calls.{shownLen}
 use Rattle.runs.specs.Answers.{written, answer}
-use Rattle.runs.specs.Texts.{visibleIn, textIn, splitsAt, textAnswer, Copied, showing, Reads, Given}
+use Rattle.ranges.specs.Texts.{visibleIn, textIn, splitsAt, textAnswer, Copied, showing, Reads, Given}
 use Rattle.runs.proofs.Tallies.{start-stands}
-use Rattle.runs.proofs.Texts.{place, shown-cons, length-shown}
+use Rattle.ranges.proofs.Texts.{place, shown-cons, length-shown}
 
 -- ---- an index inside a pair
 
@@ -66,7 +66,6 @@ module _ (h : Head) (m u : List ℕ) (i : ℕ) where
 -- ---- the answer
 
 length-visible : (u : List ℕ) (l : List Item) → length (visibleUnits u l) ≡ visible l
-unfolding widthBy
 length-visible u [] = refl
 length-visible u (i ∷ l) =
     ap length (shown-cons u i l)

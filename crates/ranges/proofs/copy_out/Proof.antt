@@ -1,13 +1,13 @@
--- `runs::text::copy_out` meets its contract. Assumes nothing.
-use Rattle.runs.proofs.text.copy_out.Statement.{statement}
-use Rattle.runs.proofs.text.copy_out.Tie as tie
+-- `ranges::copy_out` meets its contract. Assumes nothing.
+use Rattle.ranges.proofs.copy_out.Statement.{statement}
+use Rattle.ranges.proofs.copy_out.Tie as tie
 use Prim.Native.Nat.{ℕ, _-_, _≤_}
 use native.Mathlib.Omega.{arith}
 use mathlib.Core.Path.{_≡_, refl, ap, _∙_}
 use lib.ListN.{length, drop, length-set}
 use Rattle.runs.specs.Answers.{written}
-use Rattle.runs.specs.Texts.{showing, Reads}
-use Rattle.runs.proofs.Texts.{copy-left, copy-more}
+use Rattle.ranges.specs.Texts.{showing, Reads}
+use Rattle.ranges.proofs.Texts.{copy-left, copy-more}
 
 abbrev Inv-loop : tie.InvT-loop
 Inv-loop items units n out₀ place₀ i₀ out place i =

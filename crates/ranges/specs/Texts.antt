@@ -12,10 +12,10 @@ use Rattle.rules.specs.Calls.{visibleUnits, badRange}
 use Rattle.items.specs.declared.head.Head.{Head}
 use Rattle.items.specs.Chain.{chain, walks}
 use Rattle.items.specs.Memory.{listOf, soundOf}
 use Rattle.runs.specs.declared.calls.Count.{Count}
-use Rattle.runs.specs.declared.text.Place.{Place}
-use Rattle.runs.specs.declared.text.Shown.{Shown}
+use Rattle.ranges.specs.declared.Place.{Place}
+use Rattle.ranges.specs.declared.Shown.{Shown}
 use Rattle.runs.specs.Answers.{written, answer}
 
 -- What the sheet shows, an embed as a unit 0 ..
 unfoldable pub visibleIn : Head → List ℕ → List ℕ → List ℕ

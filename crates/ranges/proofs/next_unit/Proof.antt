@@ -1,13 +1,14 @@
--- `runs::text::next_unit` meets its contract. Assumes nothing.
-use Rattle.runs.proofs.text.next_unit.Statement.{statement}
-use Rattle.runs.proofs.text.next_unit.Tie as tie
+-- `ranges::next_unit` meets its contract. Assumes nothing.
+use Rattle.items.specs.Chain.{itemAt}
+use Rattle.ranges.proofs.next_unit.Statement.{statement}
+use Rattle.ranges.proofs.next_unit.Tie as tie
 use Prim.Native.Nat.{_-_, _<_}
 use native.Mathlib.Omega.{arith}
 use mathlib.Core.Path.{_≡_, refl, _∙_}
 use lib.ListN.{length}
 use borrow.Author.Needs.{needs}
-use Rattle.runs.specs.Texts.{showing, Reads}
-use Rattle.runs.proofs.Texts.{place, width-of, reads-at, reads-none, reads-below, reads-lies, reads-next, shows-none, shows-pass, shows-here, given-here, given-none}
+use Rattle.ranges.specs.Texts.{showing, Reads}
+use Rattle.ranges.proofs.Texts.{place, width-of, reads-at, reads-none, reads-below, reads-lies, reads-next, shows-none, shows-pass, shows-here, given-here, given-none}
 
 abbrev Inv-loop : tie.InvT-loop
 Inv-loop items units at₀ todo₀ off₀ at todo off =
@@ -35,8 +36,8 @@ shared-slice-read-unpack c = below (c .before)
 unpack-requires : tie.Need-unpack-requires Inv-loop μ-loop
 unpack-requires c κs = search needs
 
-width-requires : tie.Need-width-requires Inv-loop μ-loop
-width-requires c κs = search needs
+shown-len-requires : tie.Need-shown-len-requires Inv-loop μ-loop
+shown-len-requires c κs = search needs
 
 cast-w : tie.Need-cast-w Inv-loop μ-loop
 cast-w c = search needs
@@ -48,14 +49,15 @@ unit-in-requires : tie.Need-unit-in-requires Inv-loop μ-loop
 unit-in-requires c κs =
     let at-loop = c .before .before .before .before .before in
     let unpacked = c .before .before .unpack .ensures in
-    let less = rw (c .before .width .ensures, unpacked) at (c .if1 .taken) in
-    rw unpacked (reads-lies _ _ _ _ _ (c .before .before .before .before .loop-test .taken) (at-loop .loop .inv .0), width-of _ _ _ less)
+    let less = rw (c .before .shown-len .ensures, unpacked) at (c .if1 .taken) in
+    let here = itemAt (at-loop .before .before .before .args .items .now) (at-loop .loop .at) in
+    rw unpacked (reads-lies _ _ _ _ _ (c .before .before .before .before .loop-test .taken) (at-loop .loop .inv .0), width-of (here .flags .dead) (here .what) _ less)
 
 returns : tie.Need-returns Inv-loop μ-loop
 returns c =
     let at-loop = c .before .before .before .before .before .before in
     let unpacked = c .before .before .before .unpack .ensures in
-    let less = rw (c .before .before .width .ensures, unpacked) at (c .before .if1 .taken) in
+    let less = rw (c .before .before .shown-len .ensures, unpacked) at (c .before .if1 .taken) in
     let some = c .before .before .before .before .before .loop-test .taken in
     rw (c .unit-in .ensures, unpacked)
     (given-here _ _ _ _ (reads-at _ _ _ _ _ _ (at-loop .loop .inv .0)) (at-loop .loop .inv .1 ∙ shows-here _ _ _ _ _ some less))
@@ -70,9 +72,9 @@ loop-again : tie.Need-loop-again Inv-loop μ-loop
 loop-again c =
     let at-loop = c .before .before .before .before .before in
     let unpacked = c .before .before .unpack .ensures in
-    let past = rw (c .before .width .ensures, unpacked) at (c .if1 .left) in
+    let past = rw (c .before .shown-len .ensures, unpacked) at (c .if1 .left) in
     let some = c .before .before .before .before .loop-test .taken in
-    rw (c .before .width .ensures, unpacked)
+    rw (c .before .shown-len .ensures, unpacked)
     (reads-next _ _ _ _ _ some _ (at-loop .loop .inv .0), at-loop .loop .inv .1 ∙ shows-pass _ _ _ _ _ some past)
 
 returns-2 : tie.Need-returns-2 Inv-loop μ-loop
@@ -92,7 +94,7 @@ next-unit-spec =
     mul-unpack
     shared-slice-read-unpack
     unpack-requires
-    width-requires
+    shown-len-requires
     cast-w
     add-t18
     unit-in-requires

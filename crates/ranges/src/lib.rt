@@ -1,16 +1,16 @@
 // The visible units of a range, copied out: so a run's text can be had by its start and length.
-use crate::calls::Count;
-use crate::cursor::width;
+use items::calls::shown_len;
 use items::head::Head;
 use items::word::Content;
 use items::word::unpack;
+use runs::calls::Count;
 ghost use mathlib.Core.Path.{_≡_};
 ghost use Prim.Native.Nat.{_-_, _<_, _≤_, min};
 ghost use lib.ListN.{length};
 ghost use Rattle.items.specs.Word.{whatOf};
 ghost use Rattle.runs.specs.Answers.{written};
 ghost use Rattle.rules.specs.Sheet.{width as widthOf};
-ghost use Rattle.runs.specs.Texts.{unitIn, showing, splitsAt, Reads, Given, LiesIn, Copied};
+ghost use Rattle.ranges.specs.Texts.{unitIn, showing, splitsAt, Reads, Given, LiesIn, Copied};
 
 // How many items are left from `at`, and how many visible units from there are passed over.
 pub struct Place {
@@ -50,7 +50,7 @@ fn next_unit(items: &[u64], units: &[u16], from: Place) -> Shown
     while todo > 0 {
         let i = at as usize;
         let it = unpack(items[i]);
-        let w = width(it) as u64;
+        let w = shown_len(it) as u64;
         if off < w {
             let c = it.content;
             let place = Place {
