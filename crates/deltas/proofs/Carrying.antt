@@ -12,7 +12,7 @@ use Rattle.rules.specs.Sheet.{text, embed}
 use Rattle.rules.specs.Places.{At, whole}
 use Rattle.rules.specs.Edits.{insertWith}
 use Rattle.rules.specs.Delta.{newText, newEmbed, insertHere, carryOut}
-use Rattle.rules.proofs.Makes.{carry-longer}
+use Rattle.laws.proofs.Makes.{carry-longer}
 use Rattle.items.specs.declared.head.Head.{Head}
 use Rattle.items.proofs.Links.{length-chain}
 use Rattle.arena.specs.declared.Place.{Place}

@@ -13,7 +13,7 @@ use Rattle.attrs.specs.Packed.{says}
 use Rattle.rules.specs.Reading as rules
 use Rattle.rules.specs.Calls.{Body, words, object, tooLong, check}
 use Rattle.rules.specs.Rulings.{faultAt, behind, here}
-use Rattle.rules.proofs.Rulings.{faulty}
+use Rattle.laws.proofs.Rulings.{faulty}
 use Rattle.ops.specs.declared.delta.Inserted.{Inserted}
 use Rattle.ops.specs.declared.delta.Inserted.the-variants.{Text, Embed}
 use Rattle.ops.specs.declared.delta.Op.{Op}

@@ -12,7 +12,7 @@ use borrow.Author.Tests.{le-leb, lt-leb}
 use Rattle.rules.specs.Sound.{AllFit}
 use Rattle.rules.specs.Reading.{before, live}
 use Rattle.rules.specs.Event.{event, finish, fresh, toldUnits}
-use Rattle.rules.proofs.Fits.{event-fits}
+use Rattle.laws.proofs.Fits.{event-fits}
 use Rattle.items.specs.declared.head.Head.{Head}
 use Rattle.items.specs.Memory.{listOf, soundOf, Sound}
 use Rattle.items.proofs.Soundness.{sound-parts}

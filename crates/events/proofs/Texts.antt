@@ -12,7 +12,7 @@ use Rattle.rules.specs.Reading.{Seen, Glyph, unit, thing, unitsOf, glyphs, Op, 
 use Rattle.rules.specs.Sound.{Fits, AllFit}
 use Rattle.rules.specs.Event.{event, finish, ahead, isPlain, Act, keep, drop, give, giving, script, fate, fates, inUnits, toldUnits}
 use Rattle.rules.specs.Scripts.{UpToKeeps}
-use Rattle.rules.proofs.Script.{event-says}
+use Rattle.laws.proofs.Script.{event-says}
 use Rattle.items.specs.declared.head.Head.{Head}
 use Rattle.items.specs.Chain.{itemAt, nextAt, chain, walks}
 use Rattle.items.specs.Memory.{listOf}

@@ -10,7 +10,7 @@ use borrow.Author.Tests.{eq-eqb, ne-eqb, eqb-true}
 use Rattle.rules.specs.Sheet.{Item, begin}
 use Rattle.rules.specs.Calls.{Sheet, Outcome, beginNow, call}
 use Rattle.rules.specs.Rulings.{SoundSheet}
-use Rattle.rules.proofs.Calls.{call-sound}
+use Rattle.laws.proofs.Calls.{call-sound}
 use Rattle.items.specs.declared.head.Head.{Head}
 use Rattle.items.specs.Chain.{headOr}
 use Rattle.items.specs.Heads.{grownHead}

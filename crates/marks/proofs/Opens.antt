@@ -13,7 +13,7 @@ use Rattle.attrs.proofs.Force.{env-packed, says-opened, says-former, says-unset
 use Rattle.rules.specs.Reading.{live, setKey, force}
 use Rattle.rules.specs.Places.{At, Move, after, andThen, putMarks}
 use Rattle.rules.specs.Edits.{opening, settled}
-use Rattle.rules.proofs.Room.{putMarks-next}
+use Rattle.laws.proofs.Room.{putMarks-next}
 use Rattle.items.specs.declared.head.Head.{Head}
 use Rattle.items.specs.declared.word.Content.{Content}
 use Rattle.items.specs.declared.word.Content.the-variants.{Text, Embed, Mark}

@@ -12,7 +12,7 @@ use Rattle.attrs.specs.Packed.{envOf}
 use Rattle.rules.specs.Sheet.{Item, dead, kill, width, isMark}
 use Rattle.rules.specs.Places.{At, whole, over, after, andThen, split}
 use Rattle.rules.specs.Edits.{killUnits, toEnd, idle, tidyItem, tidy}
-use Rattle.rules.proofs.Remove.{end-whole}
+use Rattle.laws.proofs.Remove.{end-whole}
 use Rattle.items.specs.declared.head.Head.{Head}
 use Rattle.items.specs.Chain.{headOr}
 use Rattle.arena.specs.declared.Place.{Place}

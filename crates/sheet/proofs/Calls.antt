@@ -10,7 +10,7 @@ use borrow.Author.Tests.{eq-eqb, ne-eqb, le-leb, lt-leb}
 use Rattle.rules.specs.Places.{whole, stay}
 use Rattle.rules.specs.Calls.{Sheet, Outcome, refuse, roomy, Call, call}
 use Rattle.rules.specs.Rulings.{Ruling, asIs, ruling, ruled, decided}
-use Rattle.rules.proofs.Rulings.{call-is}
+use Rattle.laws.proofs.Rulings.{call-is}
 use Rattle.items.specs.declared.head.Head.{Head}
 use Rattle.items.specs.Chain.{headOr}
 use Rattle.items.specs.Heads.{grownHead}

@@ -9,7 +9,7 @@ use borrow.Author.Tests.{lt-ltb, le-ltb}
 use Rattle.rules.specs.Edits.{byIndex, removeHere}
 use Rattle.rules.specs.Calls.{Sheet, badRange, tooLong, removeRange}
 use Rattle.rules.specs.Rulings.{Ruling, seen, asIs, ruling}
-use Rattle.rules.proofs.Shows.{length-seen}
+use Rattle.laws.proofs.Shows.{length-seen}
 use Rattle.items.specs.declared.head.Head.{Head}
 use Rattle.items.specs.declared.calls.Length.{Length}
 use Rattle.items.specs.Memory.{modelOf, soundOf}

@@ -16,11 +16,11 @@ use Rattle.rules.specs.Reading.{live, before, Cell, cells, layCell, visible}
 use Rattle.rules.specs.Calls.{Sheet, Call, formatRange, call, AllPaired}
 use Rattle.rules.specs.Rulings.{SoundSheet, Within, unwhole, inPair, tooFar, crowded, Exactly, Byte, FineSet, FineCall, Edit}
 use Rattle.rules.specs.Shows.{shows, Formatted}
-use Rattle.rules.proofs.Lists.{In}
-use Rattle.rules.proofs.Rulings.{call-exactly}
-use Rattle.rules.proofs.Calls.{call-sound, call-before}
-use Rattle.rules.proofs.Shows.{call-cells}
-use Rattle.rules.proofs.Points.{format-points}
+use Rattle.laws.proofs.Lists.{In}
+use Rattle.laws.proofs.Rulings.{call-exactly}
+use Rattle.laws.proofs.Calls.{call-sound, call-before}
+use Rattle.laws.proofs.Shows.{call-cells}
+use Rattle.laws.proofs.Points.{format-points}
 use Rattle.items.specs.declared.head.Head.{Head}
 use Rattle.items.specs.Memory.{listOf, modelOf, soundOf, Carried, keptAll, carry}
 use Rattle.items.proofs.Soundness.{sound-parts}

@@ -1,6 +1,6 @@
 -- `sheet::change::change_by_index` meets its contract: the place, then the change. Assumes nothing.
 use native.Mathlib.Omega.{arith}
-use Rattle.rules.proofs.Room.{place-next}
+use Rattle.laws.proofs.Room.{place-next}
 use Rattle.arena.proofs.Carried.{carried-then}
 use Rattle.marks.proofs.Rooms.{carried-room}
 use Rattle.attrs.specs.Packed.{says}

@@ -10,21 +10,21 @@ use lib.ListN.{length, length-append, length-map, take, drop, drop-of-length-le}
 use lib.Seq.{take-length, take-append-seam, drop-append-seam, drop-drop}
 use borrow.Author.Tests.{leb-true, leb-false, not-false}
 use Rattle.units.specs.Surrogates.{paired, splitsPair}
 use Rattle.rules.specs.Sheet.{What, text, embed, mark, Item}
 use Rattle.rules.specs.Reading.{Glyph, seenGlyphs, Op, insert, delete, retain}
 use Rattle.rules.specs.Places.{whole, Move}
 use Rattle.rules.specs.Edits.{byIndex, plainText, plainEmbed, insertWith, format}
 use Rattle.rules.specs.Sound.{Fits, AllFit}
 use Rattle.rules.specs.Calls.{Sheet, unitAt, visibleUnits, badRange, tooLong, Body, words, object, Call, insertText, insertTextWith, insertEmbed, insertEmbedWith, formatRange, removeRange, applyDelta, laidOut, newUnits}
 use Rattle.rules.specs.Rulings.{Ruling, seen, textRuling, embedRuling, ruling, Byte, FineOps, FineCall, Edit, NoFault, end, on}
-use Rattle.rules.proofs.Lists.{or-left, or-right}
-use Rattle.rules.proofs.Grown.{Grown, same, Fresh, embeds, texts}
-use Rattle.rules.proofs.Steps.{FineWhat, FineList, Anyway, Cuttable, Growing, plainText-grows, plainEmbed-grows, insert-grows}
-use Rattle.rules.proofs.Growth.{LaidOut, drops, keeps, index-grows, format-grows, remove-grows, delta-grows}
-use Rattle.rules.proofs.Growth
-use Rattle.rules.proofs.Cuts.{Clean, CutOk, clean-from}
-use Rattle.rules.proofs.Pairs.{NewIn, clean-on, clean-rest}
-use Rattle.rules.proofs.Rulings.{faultless}
+use Rattle.laws.proofs.Lists.{or-left, or-right}
+use Rattle.laws.proofs.Grown.{Grown, same, Fresh, embeds, texts}
+use Rattle.laws.proofs.Steps.{FineWhat, FineList, Anyway, Cuttable, Growing, plainText-grows, plainEmbed-grows, insert-grows}
+use Rattle.laws.proofs.Growth.{LaidOut, drops, keeps, index-grows, format-grows, remove-grows, delta-grows}
+use Rattle.laws.proofs.Growth
+use Rattle.laws.proofs.Cuts.{Clean, CutOk, clean-from}
+use Rattle.laws.proofs.Pairs.{NewIn, clean-on, clean-rest}
+use Rattle.laws.proofs.Rulings.{faultless}
 
 -- from one sheet to another by steps
 abbrev pub Leads : Sheet → Sheet → Type 0

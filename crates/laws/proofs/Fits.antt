@@ -7,13 +7,13 @@ use mathlib.Core.List.{List, [], _∷_, _++_}
 use native.Mathlib.Nat.{zero-add, suc-add}
 use native.Mathlib.Omega.{arith}
 use lib.ListN.{length}
 use Rattle.rules.specs.Sheet.{What, text, embed, mark, Item, isMark}
 use Rattle.rules.specs.Reading.{Seen, Glyph, unit, thing, unitsOf, glyphs, Op, insert, delete, retain}
 use Rattle.rules.specs.Sound.{held, SoundList}
 use Rattle.rules.specs.Event.{event, script, carriers, inUnits, toldUnits}
 use Rattle.rules.specs.Scripts.{seenBy, given}
-use Rattle.rules.proofs.Script.{event-length}
-use Rattle.rules.proofs.Told.{given-giving, given-keeps, given-drops, event-tells}
+use Rattle.laws.proofs.Script.{event-length}
+use Rattle.laws.proofs.Told.{given-giving, given-keeps, given-drops, event-tells}
 
 in-append : (a b : List Glyph) → inUnits (a ++ b) ≡ inUnits a + inUnits b
 in-append [] b = sym (zero-add (inUnits b))

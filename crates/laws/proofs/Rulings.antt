@@ -9,12 +9,12 @@ use lib.Dec.{eqb, leb, ltb}
 use lib.ListN.{length, length-map}
 use borrow.Author.Tests.{eqb-true, eqb-false, leb-true, leb-false, le-leb, ltb-true, ltb-false}
 use Rattle.units.specs.Surrogates.{paired, splitsPair}
 use Rattle.rules.specs.Sheet.{rested, begin}
 use Rattle.rules.specs.Reading.{Op, insert, delete, retain}
 use Rattle.rules.specs.Places.{At, whole, stay}
 use Rattle.rules.specs.Calls.{Sheet, Outcome, refuse, badRange, tooLong, roomy, Body, words, object, Call, insertText, insertTextWith, insertEmbed, insertEmbedWith, formatRange, removeRange, applyDelta, beginNow, check, call}
 use Rattle.rules.specs.Rulings.{Within, seen, ruling, decided, unwhole, inPair, tooFar, crowded, Exactly, faultAt, behind, FirstFault, here, later, NoFault, end, on}
-use Rattle.rules.proofs.Lists.{and-both}
+use Rattle.laws.proofs.Lists.{and-both}
 
 -- The refusal of one that is refused at all, from up to three tests
 three : (a b d : Bool) (s : Sheet) (go : Outcome)

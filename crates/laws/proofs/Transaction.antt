@@ -7,25 +7,25 @@ use mathlib.Core.List.{List, [], _∷_}
 use native.Mathlib.Omega.{arith}
 use lib.ListN.{length}
 use Rattle.attrs.specs.Sets.{keys}
 use Rattle.rules.specs.Sheet.{text, embed, Item, begin}
 use Rattle.rules.specs.Reading.{Seen, live, before, cells, force, passKey, seenGlyphs, read}
 use Rattle.rules.specs.Places.{whole}
 use Rattle.rules.specs.Event.{event, toldUnits}
 use Rattle.rules.specs.Calls.{Sheet, freshSheet, Call, insertText, insertTextWith, insertEmbed, insertEmbedWith, formatRange, removeRange, applyDelta, beginNow, laidOut, call}
 use Rattle.rules.specs.Rulings.{Edit, FineCall, Within, SoundSheet, ruling}
 use Rattle.rules.specs.Scripts.{Tells}
 use Rattle.rules.specs.Pieces.{after}
-use Rattle.rules.proofs.Lists.{In}
-use Rattle.rules.proofs.Replay.{replay}
-use Rattle.rules.proofs.Cuts.{glyphsIn, in-cells, cells-seen, seen-live}
-use Rattle.rules.proofs.Told.{event-tells}
-use Rattle.rules.proofs.Grown.{begin-before}
-use Rattle.rules.proofs.Calls.{call-cases, fresh-sound, call-before, call-sound, call-within}
-use Rattle.rules.proofs.Fits.{Holds, event-fits}
-use Rattle.rules.proofs.Format.{format-end}
-use Rattle.rules.proofs.Insert.{insert-end, plainText-end, plainEmbed-end}
-use Rattle.rules.proofs.Remove.{remove-end}
-use Rattle.rules.proofs.Delta.{delta-end}
+use Rattle.laws.proofs.Lists.{In}
+use Rattle.laws.proofs.Replay.{replay}
+use Rattle.laws.proofs.Cuts.{glyphsIn, in-cells, cells-seen, seen-live}
+use Rattle.laws.proofs.Told.{event-tells}
+use Rattle.laws.proofs.Grown.{begin-before}
+use Rattle.laws.proofs.Calls.{call-cases, fresh-sound, call-before, call-sound, call-within}
+use Rattle.laws.proofs.Fits.{Holds, event-fits}
+use Rattle.laws.proofs.Format.{format-end}
+use Rattle.laws.proofs.Insert.{insert-end, plainText-end, plainEmbed-end}
+use Rattle.laws.proofs.Remove.{remove-end}
+use Rattle.laws.proofs.Delta.{delta-end}
 
 -- calls that can be handed in, none of them Begin
 abbrev pub Edits : List Call → Type 0

@@ -7,11 +7,11 @@ use native.Mathlib.Omega.{arith}
 use lib.Dec.{eqb, leb}
 use lib.ListN.{length, take, length-append, length-take}
 use borrow.Author.Tests.{leb-true, leb-false}
 use Rattle.rules.specs.Sheet.{What, text, embed, mark, Item, dead}
 use Rattle.rules.specs.Reading.{live, Glyph, unitsOf, Cell, paint, cells, force, passKey, shown}
 use Rattle.rules.specs.Places.{over, split, uses, place}
 use Rattle.rules.specs.Shows.{lastOr, inherited}
-use Rattle.rules.proofs.Places.{item, split-reads, length-shown, take-past}
+use Rattle.laws.proofs.Places.{item, split-reads, length-shown, take-past}
 
 last-paint : (v : ℕ) (gs : List Glyph) (cs : List Cell) → lastOr v (paint v gs ++ cs) ≡ lastOr v cs
 last-paint v [] cs = refl

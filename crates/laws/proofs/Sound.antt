@@ -7,11 +7,11 @@ use native.Mathlib.Omega.{arith}
 use lib.Dec.{eqb, ltb}
 use borrow.Author.Tests.{eqb-true, eqb-false, ltb-true, ltb-false}
 use Rattle.attrs.specs.Sets.{keys}
 use Rattle.rules.specs.Sheet.{What, text, embed, mark, Item}
 use Rattle.rules.specs.Sound.{Fits, AllFit, held, occurs, below, SoundList}
 use Rattle.rules.specs.Rulings.{Byte}
-use Rattle.rules.proofs.Lists.{In, here, there}
-use Rattle.rules.proofs.Grown.{Grown, same, then, under, marked, adds, kills, halves, Fresh, embeds, texts, grown-count}
+use Rattle.laws.proofs.Lists.{In, here, there}
+use Rattle.laws.proofs.Grown.{Grown, same, then, under, marked, adds, kills, halves, Fresh, embeds, texts, grown-count}
 
 abbrev small : List ℕ → Type 0
 small [] = Unit {0}

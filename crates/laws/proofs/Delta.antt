@@ -3,15 +3,15 @@ use Prim.Native.Nat.{ℕ, zero, suc}
 use mathlib.Core.Path.{_≡_, refl, ap, _∙_, subst}
 use mathlib.Core.List.{List, [], _∷_, _++_, map, append-assoc}
 use Rattle.attrs.specs.Sets.{Env, none, keys}
 use Rattle.rules.specs.Sheet.{Item}
 use Rattle.rules.specs.Reading.{live, Glyph, Cell, cells, force, Op, insert, delete, retain, read}
 use Rattle.rules.specs.Places.{At, whole, stay, after, andThen}
 use Rattle.rules.specs.Delta.{Given, newText, newEmbed, move, carryOut, delta, spelt}
-use Rattle.rules.proofs.Lists.{In}
-use Rattle.rules.proofs.Places.{Reads, reads-end, reads-then, reads-whole, whole-end}
-use Rattle.rules.proofs.Format.{format-reads}
-use Rattle.rules.proofs.Insert.{insert-reads}
-use Rattle.rules.proofs.Remove.{delete-reads}
+use Rattle.laws.proofs.Lists.{In}
+use Rattle.laws.proofs.Places.{Reads, reads-end, reads-then, reads-whole, whole-end}
+use Rattle.laws.proofs.Format.{format-reads}
+use Rattle.laws.proofs.Insert.{insert-reads}
+use Rattle.laws.proofs.Remove.{delete-reads}
 
 module _ (j : ℕ) (jk : In j keys) where
   -- an operation at a place: what it leaves on either side

@@ -8,12 +8,12 @@ use native.Mathlib.Omega.{arith}
 use lib.ListN.{length, getD, take, drop, length-append, take-append-drop}
 use lib.Seq.{length-take-le}
 use Rattle.units.specs.Surrogates.{isHigh, isLow, splitsPair}
 use Rattle.rules.specs.Sheet.{Item}
 use Rattle.rules.specs.Reading.{Seen, live, Glyph, unit, unitsOf, glyphs, Cell, paint, cells, force, passKey, seenGlyphs}
 use Rattle.rules.specs.Places.{At, place}
 use Rattle.rules.specs.Calls.{unitAt}
 use Rattle.rules.specs.Scripts.{seenBy}
-use Rattle.rules.proofs.Places.{Reads, place-reads, units-add}
+use Rattle.laws.proofs.Places.{Reads, place-reads, units-add}
 
 -- no cut at index n of these glyphs is forbidden
 abbrev pub Clean : (ℕ → Type 0) → List Glyph → ℕ → Type 0

@@ -11,11 +11,11 @@ use lib.ListN.{length, take, drop}
 use lib.Seq.{take-at, drop-at, take-nil, drop-nil, take-append-add, drop-append-add}
 use borrow.Author.Tests.{eq-eqb, eqb-true, leb-true, leb-false}
 use Rattle.attrs.specs.Sets.{Slot, absent, is, Set, Env, none, keys, at, lay, slotIs}
 use Rattle.rules.specs.Sheet.{What, text, embed, mark, Item, dead}
 use Rattle.rules.specs.Reading.{Seen, live, Glyph, unit, unitsOf, glyphs, Cell, paint, cells, force, passKey, shown}
 use Rattle.rules.specs.Places.{At, whole, stay, over, Move, after, andThen, split, uses, place, settle, markFor, marks, putMarks, close}
 use Rattle.rules.specs.Edits.{byIndex}
-use Rattle.rules.proofs.Lists.{paint-append, length-paint, length-units, length-glyphs, In, here, there}
+use Rattle.laws.proofs.Lists.{paint-append, length-paint, length-units, length-glyphs, In, here, there}
 
 -- an item by its parts
 abbrev pub item : ℕ → What → Bool → Bool → Bool → Item

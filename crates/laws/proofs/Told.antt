@@ -5,12 +5,12 @@ use mathlib.Core.Bool.{Bool, true, false, cond, not, _&&_}
 use mathlib.Core.List.{List, [], _∷_, _++_, append-nil}
 use native.Mathlib.Omega.{arith}
 use lib.ListN.{length, replicate}
 use Rattle.rules.specs.Sheet.{What, Item, width}
 use Rattle.rules.specs.Reading.{Seen, Glyph, glyphs}
 use Rattle.rules.specs.Event.{event, Act, keep, drop, give, giving, script, fate, fates}
 use Rattle.rules.specs.Scripts.{seenBy, Fate, fated, fatesOver, given, oldUnits, newUnits, UpToKeeps, Tells}
-use Rattle.rules.proofs.Lists.{length-glyphs}
-use Rattle.rules.proofs.Script.{event-says}
+use Rattle.laws.proofs.Lists.{length-glyphs}
+use Rattle.laws.proofs.Script.{event-says}
 
 -- what one item says
 over-giving : (hs : List Glyph) (acts : List Act) (gs : List Glyph) → fatesOver (giving hs ++ acts) gs ≡ fatesOver acts gs

@@ -7,21 +7,21 @@ use mathlib.Core.List.{List, [], _∷_, _++_, append-assoc}
 use native.Mathlib.Omega.{arith}
 use lib.ListN.{length, length-append}
 use Rattle.attrs.specs.Sets.{Set, Env, none, empty, keys, isNone}
 use Rattle.rules.specs.Sheet.{What, text, embed, mark, Item}
 use Rattle.rules.specs.Reading.{Glyph, seenGlyphs, Op, insert, delete, retain}
 use Rattle.rules.specs.Places.{At, whole, stay, Move, after, andThen, place}
 use Rattle.rules.specs.Edits.{byIndex, plainText, plainEmbed, insertWith, format, killUnits, tidy, deleteHere, removeHere, remove}
 use Rattle.rules.specs.Delta.{Given, newText, newEmbed, move, carryOut, delta}
 use Rattle.rules.specs.Calls.{Sheet, Body, words, object, Call, insertText, insertTextWith, insertEmbed, insertEmbedWith, formatRange, removeRange, applyDelta, laidOut, call}
 use Rattle.rules.specs.Rulings.{Within, textRuling, ruling, Edit}
 use Rattle.rules.specs.Sound.{occurs}
 use Rattle.rules.specs.Counts.{AllBelow, Makes, mostNew}
-use Rattle.rules.proofs.Grown.{Grown, Fresh, embeds, texts, grown-count, grown-next, grown-below}
-use Rattle.rules.proofs.Steps.{FineWhat, FineList, Anyway, Growing, Cuttable, place-grows, plainText-grows, plainEmbed-grows, insert-grows}
-use Rattle.rules.proofs.Growth.{format-grows, delete-grows, removeHere-grows}
-use Rattle.rules.proofs.Sound.{grown-once}
-use Rattle.rules.proofs.Calls.{call-cases}
-use Rattle.rules.proofs.Room.{place-next, settle-next, insert-next, format-next, kill-next}
+use Rattle.laws.proofs.Grown.{Grown, Fresh, embeds, texts, grown-count, grown-next, grown-below}
+use Rattle.laws.proofs.Steps.{FineWhat, FineList, Anyway, Growing, Cuttable, place-grows, plainText-grows, plainEmbed-grows, insert-grows}
+use Rattle.laws.proofs.Growth.{format-grows, delete-grows, removeHere-grows}
+use Rattle.laws.proofs.Sound.{grown-once}
+use Rattle.laws.proofs.Calls.{call-cases}
+use Rattle.laws.proofs.Room.{place-next, settle-next, insert-next, format-next, kill-next}
 
 -- every move is made of steps; nothing is asked of values, cuts or new items here
 abbrev Any : ℕ → Type 0

@@ -9,11 +9,11 @@ use native.Mathlib.Omega.{arith}
 use lib.Dec.{eqb}
 use borrow.Author.Tests.{eqb-true, eqb-false}
 use Rattle.attrs.specs.Sets.{Env, none, keys, sameForce}
 use Rattle.rules.specs.Sheet.{What, text, embed, mark, Item, dead}
 use Rattle.rules.specs.Reading.{live, Glyph, thing, unitsOf, Cell, paint, cells}
 use Rattle.rules.specs.Runs.{Chunk, words, object, Run, pack, runsFrom, runs, isText, glyphsOf, mergeable, merged, ahead, joined, keysOf, runKeys}
-use Rattle.rules.proofs.Lists.{paint-append, In, here, there, and-left, and-right}
-use Rattle.rules.proofs.Places.{item}
+use Rattle.laws.proofs.Lists.{paint-append, In, here, there, and-left, and-right}
+use Rattle.laws.proofs.Places.{item}
 
 abbrev pub runCells : ℕ → List Run → List Cell
 runCells j [] = []

@@ -9,23 +9,23 @@ use lib.ListN.{length, length-append, length-map, length-take, length-drop, take
 use borrow.Author.Tests.{ltb-true, ltb-false, lt-ltb}
 use Rattle.units.specs.Surrogates.{splitsPair}
 use Rattle.attrs.specs.Sets.{Set, none, keys, lay}
 use Rattle.rules.specs.Sheet.{What, text, embed, Item, begin, width}
 use Rattle.rules.specs.Reading.{live, force, passKey, thing, unitsOf, glyphs, Cell, paint, shown, cells, layCell, seenGlyphs, visible, Op, insert, delete, retain, read}
 use Rattle.rules.specs.Places.{At, whole, stay, andThen, place}
 use Rattle.rules.specs.Delta.{Given, newText, carryOut, spelt}
 use Rattle.rules.specs.Calls.{Sheet, unitAt, tooLong, badRange, Body, words, object, Call, insertText, insertTextWith, insertEmbed, insertEmbedWith, formatRange, removeRange, applyDelta, beginNow, laidOut, call}
 use Rattle.rules.specs.Rulings.{Within, seen, tooFar, ruling, NoFault, on}
 use Rattle.rules.specs.Shows.{inherited, putAt, nextUnits, shows, gains, losses, lengthAfter}
-use Rattle.rules.proofs.Lists.{In, zero-key, length-paint, length-units, length-glyphs}
-use Rattle.rules.proofs.Format.{format-cells}
-use Rattle.rules.proofs.Insert.{insert-cells, plainText-cells, plainEmbed-cells}
-use Rattle.rules.proofs.Remove.{remove-cells}
-use Rattle.rules.proofs.Delta.{delta-cells}
-use Rattle.rules.proofs.Cuts.{in-cells, in-length}
-use Rattle.rules.proofs.Plain.{place-inherits}
-use Rattle.rules.proofs.Rulings.{faultless}
-use Rattle.rules.proofs.Leads.{no-fault}
-use Rattle.rules.proofs.Calls.{call-cases}
+use Rattle.laws.proofs.Lists.{In, zero-key, length-paint, length-units, length-glyphs}
+use Rattle.laws.proofs.Format.{format-cells}
+use Rattle.laws.proofs.Insert.{insert-cells, plainText-cells, plainEmbed-cells}
+use Rattle.laws.proofs.Remove.{remove-cells}
+use Rattle.laws.proofs.Delta.{delta-cells}
+use Rattle.laws.proofs.Cuts.{in-cells, in-length}
+use Rattle.laws.proofs.Plain.{place-inherits}
+use Rattle.laws.proofs.Rulings.{faultless}
+use Rattle.laws.proofs.Leads.{no-fault}
+use Rattle.laws.proofs.Calls.{call-cases}
 
 begin-cells : (j v : ℕ) (l : List Item) → cells live j v (begin l) ≡ cells live j v l
 begin-cells j v [] = refl

@@ -8,12 +8,12 @@ use lib.Dec.{eqb}
 use lib.ListN.{length}
 use borrow.Author.Tests.{eqb-true}
 use Rattle.attrs.specs.Sets.{Slot, absent, is, isAbsent, Set, Env, keys, lay, differs, opened, former}
 use Rattle.rules.specs.Sheet.{Item}
 use Rattle.rules.specs.Reading.{live, Cell, cells, force}
 use Rattle.rules.specs.Places.{Move, after, settle, marks, putMarks}
 use Rattle.rules.specs.Edits.{opening, settled}
-use Rattle.rules.proofs.Lists.{In}
-use Rattle.rules.proofs.Places.{Reads, reads-end, reads-then, settle-reads, settle-keeps, putMarks-reads, marks-set}
+use Rattle.laws.proofs.Lists.{In}
+use Rattle.laws.proofs.Places.{Reads, reads-end, reads-then, settle-reads, settle-keeps, putMarks-reads, marks-set}
 
 -- what the set and what is remembered say of the value now and the value in the old list
 pub record Inv (a r : Slot) (old now : ℕ) : Type 0 where

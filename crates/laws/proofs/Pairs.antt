@@ -10,15 +10,15 @@ use lib.ListN.{length, getD, take, drop, length-take, length-drop, List·getD-ap
 use lib.Seq.{drop-drop, take-take, getD-take, getD-drop, drop-append-le, take-append-le}
 use borrow.Author.Tests.{leb-true, leb-false}
 use Rattle.units.specs.Surrogates.{isHigh, isLow, pairedFrom, paired, splitsPair}
 use Rattle.rules.specs.Sheet.{What, text, embed, mark, Item}
 use Rattle.rules.specs.Reading.{live, Glyph, unit, thing, unitsOf, glyphs, seenGlyphs}
 use Rattle.rules.specs.Sound.{Fits, AllFit}
 use Rattle.rules.specs.Calls.{unitAt, Paired, PairedWhat, AllPaired}
 use Rattle.rules.specs.Rulings.{InWord, AllInWord, Byte}
-use Rattle.rules.proofs.Lists.{and-left, and-right, and-both}
-use Rattle.rules.proofs.Cuts.{Clean, CutOk, clean-from, clean-drop}
-use Rattle.rules.proofs.Grown.{Grown, same, then, under, marked, adds, kills, halves, embeds, texts}
-use Rattle.rules.proofs.Sound.{grown-used, grown-fit}
+use Rattle.laws.proofs.Lists.{and-left, and-right, and-both}
+use Rattle.laws.proofs.Cuts.{Clean, CutOk, clean-from, clean-drop}
+use Rattle.laws.proofs.Grown.{Grown, same, then, under, marked, adds, kills, halves, embeds, texts}
+use Rattle.laws.proofs.Sound.{grown-used, grown-fit}
 
 -- a paired text cut where no pair is split
 split-from : (b : Bool) (xs : List ℕ) (n : ℕ) → pairedFrom b xs ≡ true → suc n < length xs → (isHigh (getD xs n 0) && isLow (getD xs (suc n) 0)) ≡ false

@@ -7,13 +7,13 @@ use lib.Dec.{eqb}
 use lib.ListN.{take, drop}
 use borrow.Author.Tests.{eqb-true}
 use Rattle.attrs.specs.Sets.{Slot, absent, is, Set, Env, empty, keys, lay, nullFor, completed}
 use Rattle.rules.specs.Sheet.{What, text, embed, mark, Item, new, isMark}
 use Rattle.rules.specs.Reading.{live, glyphs, paint, cells, force, setKey}
 use Rattle.rules.specs.Places.{whole, place, settle, put}
 use Rattle.rules.specs.Edits.{byIndex, putNew, plainText, plainEmbed, closing, putClose, insertWith}
-use Rattle.rules.proofs.Lists.{In}
-use Rattle.rules.proofs.Places.{Reads, reads-as, reads-end, reads-then, settle-reads, settle-keeps, close-reads, index-cells, index-end}
-use Rattle.rules.proofs.Opening.{settled-reads}
+use Rattle.laws.proofs.Lists.{In}
+use Rattle.laws.proofs.Places.{Reads, reads-as, reads-end, reads-then, settle-reads, settle-keeps, close-reads, index-cells, index-end}
+use Rattle.laws.proofs.Opening.{settled-reads}
 
 module _ (j : ℕ) where
   no-key : (w : What) (v : ℕ) → isMark w ≡ false → setKey j w v ≡ v

@@ -10,12 +10,12 @@ use lib.ListN.{length, take, drop, take-append-drop}
 use lib.Seq.{drop-nil}
 use borrow.Author.Tests.{eqb-true, eqb-false, leb-true, leb-false}
 use Rattle.attrs.specs.Sets.{Env, keys, isNone}
 use Rattle.rules.specs.Sheet.{What, text, embed, mark, Item, dead, kill, width, isMark}
 use Rattle.rules.specs.Reading.{live, Glyph, unitsOf, glyphs, Cell, paint, cells, force, passKey, shown}
 use Rattle.rules.specs.Places.{At, whole, stay, over, after, split}
 use Rattle.rules.specs.Edits.{killUnits, toEnd, idle, tidyItem, tidy, deleteHere, removeHere, remove}
-use Rattle.rules.proofs.Lists.{length-paint, length-units, map-append}
-use Rattle.rules.proofs.Places.{item, Reads, split-reads, index-cells, index-end, cells-append, force-append, drop-past}
+use Rattle.laws.proofs.Lists.{length-paint, length-units, map-append}
+use Rattle.laws.proofs.Places.{item, Reads, split-reads, index-cells, index-end, cells-append, force-append, drop-past}
 
 -- a list that shows nothing, whatever is in force: deleted items and marks
 abbrev pub silent : Item → Bool

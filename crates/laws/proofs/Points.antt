@@ -6,12 +6,12 @@ use native.Mathlib.Omega.{arith}
 use lib.ListN.{length, getD, take, drop, length-take, length-drop, List·getD-append}
 use lib.Seq.{getD-append-add, getD-take, getD-drop, length-take-le}
 use Rattle.attrs.specs.Sets.{Set, keys}
 use Rattle.rules.specs.Reading.{live, Cell, cells, layCell, visible}
 use Rattle.rules.specs.Calls.{Sheet, formatRange, call}
 use Rattle.rules.specs.Rulings.{Within}
 use Rattle.rules.specs.Shows.{Formatted}
-use Rattle.rules.proofs.Lists.{In}
-use Rattle.rules.proofs.Shows.{call-cells, visible-cells}
+use Rattle.laws.proofs.Lists.{In}
+use Rattle.laws.proofs.Shows.{call-cells, visible-cells}
 
 module _ (g : Cell → Cell) (d : Cell) where
   -- the first n cells changed by g

@@ -10,13 +10,13 @@ use lib.ListN.{length, take, drop}
 use lib.Seq.{take-nil, drop-nil}
 use borrow.Author.Tests.{eqb-true, leb-true, leb-false, ltb-false}
 use Rattle.attrs.specs.Sets.{Slot, absent, is, isAbsent, bare, Set, Env, none, keys, lay, slotIs}
 use Rattle.rules.specs.Sheet.{What, text, embed, mark, Item, dead, kill}
 use Rattle.rules.specs.Reading.{live, Glyph, thing, unitsOf, Cell, paint, layCell, cells, force, passKey, shown}
 use Rattle.rules.specs.Places.{whole, over, andThen, split, close}
 use Rattle.rules.specs.Edits.{byIndex, closing, walking, remember, walksOn, formatWalk, format}
-use Rattle.rules.proofs.Lists.{length-paint, length-units, lay-paint, map-append, In, or-left, positive}
-use Rattle.rules.proofs.Opening.{Inv, settled-reads}
-use Rattle.rules.proofs.Places.{item, Reads, reads-as, reads-over, reads-then, split-reads, close-reads, index-cells, index-end, take-past, drop-past}
+use Rattle.laws.proofs.Lists.{length-paint, length-units, lay-paint, map-append, In, or-left, positive}
+use Rattle.laws.proofs.Opening.{Inv, settled-reads}
+use Rattle.laws.proofs.Places.{item, Reads, reads-as, reads-over, reads-then, split-reads, close-reads, index-cells, index-end, take-past, drop-past}
 
 module _ (j : ℕ) (jk : In j keys) (a : Set) where
   -- the cells as Format leaves them

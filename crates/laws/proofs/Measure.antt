@@ -3,10 +3,10 @@ use Prim.Native.Nat.{ℕ, zero, suc, _+_, _-_, _≤_}
 use mathlib.Core.Path.{_≡_, refl, sym, ap, _∙_}
 use mathlib.Core.List.{List, [], _∷_, _++_}
 use native.Mathlib.Omega.{arith}
 use Rattle.rules.specs.Sheet.{What, text, embed, mark, width}
 use Rattle.rules.specs.Reading.{Glyph, unitsOf, glyphs}
 use Rattle.rules.specs.Places.{leftHalf, rightHalf}
-use Rattle.rules.proofs.Places.{units-add}
+use Rattle.laws.proofs.Places.{units-add}
 
 -- The left half is as wide as the count ..
 pub cut-left : (n s w : ℕ) → width (leftHalf n (text s w)) ≡ n

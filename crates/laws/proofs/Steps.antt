@@ -9,15 +9,15 @@ use lib.Dec.{eqb, leb}
 use lib.ListN.{length}
 use borrow.Author.Tests.{leb-true, leb-false}
 use Rattle.attrs.specs.Sets.{Slot, absent, is, isAbsent, Set, Env, empty, keys, differs, opened, former, completed, nullFor}
 use Rattle.rules.specs.Sheet.{What, text, embed, mark, Item, dead, new}
 use Rattle.rules.specs.Reading.{live, Glyph, glyphs, seenGlyphs, force, passKey}
 use Rattle.rules.specs.Places.{At, whole, stay, over, Move, after, andThen, split, uses, place, agrees, settle, markFor, marks, putMarks, forget, close}
 use Rattle.rules.specs.Edits.{putNew, plainText, plainEmbed, opening, settled, closing, putClose, insertWith}
 use Rattle.rules.specs.Rulings.{FineSet}
-use Rattle.rules.proofs.Lists.{In, here, there, length-glyphs}
-use Rattle.rules.proofs.Grown.{Fresh, embeds, texts, Grown, same, then, under, marked, adds, kills, halves}
-use Rattle.rules.proofs.Cuts.{Clean, clean-past, clean-cut, seen-same}
-use Rattle.rules.proofs.Places.{item, settle-reads}
+use Rattle.laws.proofs.Lists.{In, here, there, length-glyphs}
+use Rattle.laws.proofs.Grown.{Fresh, embeds, texts, Grown, same, then, under, marked, adds, kills, halves}
+use Rattle.laws.proofs.Cuts.{Clean, clean-past, clean-cut, seen-same}
+use Rattle.laws.proofs.Places.{item, settle-reads}
 
 -- the values of a list's marks, of a set, and of what is in force
 abbrev pub FineWhat : (ℕ → Type 0) → What → Type 0

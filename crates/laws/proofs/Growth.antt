@@ -9,20 +9,20 @@ use lib.Dec.{eqb, leb}
 use lib.ListN.{drop}
 use borrow.Author.Tests.{leb-true, leb-false}
 use Rattle.attrs.specs.Sets.{absent, is, isAbsent, bare, Set, Env, none, keys, slotIs, isNone}
 use Rattle.rules.specs.Sheet.{What, text, embed, mark, Item, dead, kill, width}
 use Rattle.rules.specs.Reading.{live, Glyph, seenGlyphs, force, Op, insert, delete, retain}
 use Rattle.rules.specs.Places.{At, whole, stay, over, Move, after, andThen, split, place, close}
 use Rattle.rules.specs.Edits.{byIndex, closing, insertWith, keyIn, remember, walksOn, formatWalk, walking, format, killUnits, toEnd, idle, tidyItem, tidy, deleteHere, removeHere, remove}
 use Rattle.rules.specs.Delta.{Given, newText, newEmbed, insertHere, move, carryOut, delta}
 use Rattle.rules.specs.Rulings.{FineSet}
-use Rattle.rules.proofs.Lists.{zero-key, positive}
-use Rattle.rules.proofs.Grown.{embeds, texts, Grown, same, then, under, kills, halves}
-use Rattle.rules.proofs.Steps.{FineWhat, FineList, Anyway, Cuttable, Grows, Growing, under-all, grows-then, clean-item, place-grows, close-grows, fine-is, settled-grows, insert-grows}
-use Rattle.rules.proofs.Cuts.{Clean, clean-cut, seen-right, seen-same, place-seen}
-use Rattle.rules.proofs.Insert.{insert-reads}
-use Rattle.rules.proofs.Format.{format-reads}
-use Rattle.rules.proofs.Remove.{end-whole, delete-reads}
-use Rattle.rules.proofs.Places.{item}
+use Rattle.laws.proofs.Lists.{zero-key, positive}
+use Rattle.laws.proofs.Grown.{embeds, texts, Grown, same, then, under, kills, halves}
+use Rattle.laws.proofs.Steps.{FineWhat, FineList, Anyway, Cuttable, Grows, Growing, under-all, grows-then, clean-item, place-grows, close-grows, fine-is, settled-grows, insert-grows}
+use Rattle.laws.proofs.Cuts.{Clean, clean-cut, seen-right, seen-same, place-seen}
+use Rattle.laws.proofs.Insert.{insert-reads}
+use Rattle.laws.proofs.Format.{format-reads}
+use Rattle.laws.proofs.Remove.{end-whole, delete-reads}
+use Rattle.laws.proofs.Places.{item}
 
 module _ (P C : ℕ → Type 0) (N : What → Type 0) where
   -- Format

@@ -7,11 +7,11 @@ use mathlib.Core.List.{List, [], _∷_, _++_, append-assoc}
 use native.Mathlib.Omega.{arith}
 use lib.ListN.{length}
 use Rattle.attrs.specs.Sets.{keys}
 use Rattle.rules.specs.Sheet.{What, text, embed, mark, Flags, Item, dead, new, kill, begin}
 use Rattle.rules.specs.Reading.{live, before, unitsOf, glyphs, Cell, paint, cells, setKey, passKey, shown}
 use Rattle.rules.specs.Counts.{AllBelow}
-use Rattle.rules.proofs.Lists.{In}
-use Rattle.rules.proofs.Places.{item, cut-cells}
+use Rattle.laws.proofs.Lists.{In}
+use Rattle.laws.proofs.Places.{item, cut-cells}
 
 -- what may be put besides marks: an embed, or a text whose units are the next ones, and how many units are used then
 pub data Fresh (N : What → Type 0) : What → ℕ → ℕ → Type 0 where

@@ -7,18 +7,18 @@ use native.Mathlib.Omega.{arith}
 use lib.Dec.{eqb, leb}
 use lib.ListN.{length, length-map}
 use borrow.Author.Tests.{eqb-true, eqb-false, leb-true, le-ltb}
 use Rattle.rules.specs.Sheet.{text, embed, mark, Item, rested, begin}
 use Rattle.rules.specs.Reading.{before, cells}
 use Rattle.rules.specs.Places.{whole}
 use Rattle.rules.specs.Sound.{AllFit, held, occurs, below}
 use Rattle.rules.specs.Calls.{Sheet, freshSheet, Outcome, refuse, roomy, Call, insertText, insertTextWith, insertEmbed, insertEmbedWith, formatRange, removeRange, applyDelta, beginNow, call, AllPaired}
 use Rattle.rules.specs.Rulings.{Within, AllInWord, SoundSheet, Ruling, ruling, ruled, brought, FineCall, Edit}
-use Rattle.rules.proofs.Lists.{and-left, and-right}
-use Rattle.rules.proofs.Grown.{same, grown-stays, grown-next}
-use Rattle.rules.proofs.Sound.{grown-sound, grown-once}
-use Rattle.rules.proofs.Pairs.{grown-paired, grown-words, paired-on}
-use Rattle.rules.proofs.Rulings.{call-is}
-use Rattle.rules.proofs.Leads.{Leads, Rules, ruling-leads}
+use Rattle.laws.proofs.Lists.{and-left, and-right}
+use Rattle.laws.proofs.Grown.{same, grown-stays, grown-next}
+use Rattle.laws.proofs.Sound.{grown-sound, grown-once}
+use Rattle.laws.proofs.Pairs.{grown-paired, grown-words, paired-on}
+use Rattle.laws.proofs.Rulings.{call-is}
+use Rattle.laws.proofs.Leads.{Leads, Rules, ruling-leads}
 
 -- A call is refused and leaves the sheet, or nothing is wrong with it and the sheet is as ruled, within the limits.
 pub call-cases : (P : Outcome → Type 0) (c : Call) (s : Sheet) → Within s
