@@ -11,7 +11,7 @@ use Rattle.items.specs.declared.head.Head.{Head}
 use Rattle.items.specs.Memory.{listOf, soundOf, Carried, keptAll, carry}
 use Rattle.items.proofs.Soundness.{sound-parts}
 use Rattle.items.proofs.Models.{used-length}
-use Rattle.sheet.specs.Frame.{Left, granted}
+use Rattle.changes.specs.Frame.{Left, granted}
 use Rattle.ops.specs.declared.delta.Delta.{Delta}
 use Rattle.ops.specs.Ops.{opsOf}
 use Rattle.deltas.specs.Turns.{laid, bringing, given}

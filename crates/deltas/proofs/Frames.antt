@@ -12,7 +12,7 @@ use Rattle.items.specs.declared.head.Head.{Head}
 use Rattle.arena.specs.declared.Place.{Place}
 use Rattle.arena.specs.Places.{Arena, Standing, listOf, placed, startOf}
 use Rattle.arena.proofs.Steps.{start-stands}
-use Rattle.sheet.specs.Frame.{granted}
+use Rattle.changes.specs.Frame.{granted}
 use Rattle.deltas.specs.Turns.{Tried}
 
 module _ {h : Head} {m : List ℕ} (a : Arena h m) {p : Place} (e : p ≡ startOf h) where

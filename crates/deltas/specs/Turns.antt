@@ -14,7 +14,7 @@ use Rattle.ops.specs.declared.delta.Op.{Op}
 use Rattle.ops.specs.declared.delta.Op.the-variants.{Insert, Delete, Retain}
 use Rattle.ops.specs.declared.delta.DeltaOp.{DeltaOp}
 use Rattle.ops.specs.declared.delta.Delta.{Delta}
-use Rattle.sheet.specs.Frame.{Worked}
+use Rattle.changes.specs.Frame.{Worked}
 
 -- What an Inserted holds, the units of its text laid behind m others; and how many units that is.
 abbrev pub givenAt : ℕ → Inserted → Given

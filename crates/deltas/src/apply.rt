@@ -6,7 +6,7 @@ ghost use Rattle.rules.specs.Calls.{applyDelta, check};
 ghost use Rattle.rules.specs.Rulings.{seen};
 ghost use Rattle.items.specs.Memory.{soundOf, modelOf, carry};
 ghost use Rattle.ops.specs.Ops.{opsOf};
-ghost use Rattle.sheet.specs.Frame.{leaving};
+ghost use Rattle.changes.specs.Frame.{leaving};
 ghost use Rattle.deltas.specs.Checks.{manyOf};
 ghost use Rattle.deltas.specs.Call.{shortScratch, carryDelta};
 use crate::append::append_all;

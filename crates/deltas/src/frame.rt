@@ -3,7 +3,7 @@ ghost use mathlib.Core.Path.{_≡_};
 ghost use Prim.Native.Nat.{_+_, _≤_};
 ghost use Rattle.rules.specs.Delta.{delta};
 ghost use Rattle.items.specs.Memory.{listOf};
-ghost use Rattle.sheet.specs.Frame.{left, granted, Loadable};
+ghost use Rattle.changes.specs.Frame.{left, granted, Loadable};
 ghost use Rattle.deltas.specs.Turns.{laid, bringing, given};
 use crate::turns::carry_out;
 use arena::At;

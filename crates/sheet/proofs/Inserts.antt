@@ -17,7 +17,7 @@ use Rattle.items.specs.declared.head.Head.{Head}
 use Rattle.items.specs.Memory.{listOf, modelOf, soundOf, storedUnits}
 use Rattle.items.proofs.Soundness.{sound-parts}
 use Rattle.items.proofs.Models.{used-length}
-use Rattle.sheet.specs.Changes.{moveOf, Ready}
+use Rattle.changes.specs.Changes.{moveOf, Ready}
 use Rattle.sheet.specs.Inserts.{textCall, embedCall, textChange, embedChange}
 
 -- ---- embeds

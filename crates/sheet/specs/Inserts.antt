@@ -5,8 +5,8 @@ use mathlib.Core.List.{List}
 use Rattle.attrs.specs.Sets.{Set}
 use Rattle.rules.specs.Calls.{Call, insertText, insertTextWith, insertEmbed, insertEmbedWith}
 use Rattle.items.specs.declared.word.Content.the-variants.{Text, Embed, Mark}
-use Rattle.sheet.specs.declared.change.Change.{Change}
-use Rattle.sheet.specs.declared.change.Change.the-variants.{PlainText, PlainEmbed, With, Format, Remove}
+use Rattle.changes.specs.declared.change.Change.{Change}
+use Rattle.changes.specs.declared.change.Change.the-variants.{PlainText, PlainEmbed, With, Format, Remove}
 
 -- The call for text: plain, or with a set.
 abbrev pub textCall : Bool → ℕ → List ℕ → Set → Call

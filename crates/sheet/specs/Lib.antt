@@ -1,4 +1,2 @@
-pub mod Changes
-pub mod Frame
 pub mod Inserts
 pub mod Ranges

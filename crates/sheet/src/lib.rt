@@ -1,6 +1,4 @@
 // A sheet's calls: every refusal, and all or nothing.
-mod change; // what an edit does at its place
-mod frame; // an edit in a working copy, and back
 mod faults; // the refusals that only read
 mod append; // new units
 pub mod insert; // text and embeds

@@ -7,8 +7,8 @@ use lib.ListN.{length, take}
 use denote.Ref.{now}
 use Rattle.rules.specs.Calls.{Call, applyDelta, newUnits}
 use Rattle.items.proofs.Soundness.{sound-parts}
-use Rattle.sheet.proofs.Sounds.{sound-loads}
-use Rattle.sheet.proofs.Calls.{carry-faulty, carry-crowded, carry-granted}
+use Rattle.changes.proofs.Sounds.{sound-loads}
+use Rattle.changes.proofs.Calls.{carry-faulty, carry-crowded, carry-granted}
 use Rattle.ops.specs.Ops.{opsOf}
 use Rattle.deltas.specs.Turns.{bringing, given}
 use Rattle.deltas.proofs.Reading.{many-none}

@@ -1,5 +1,5 @@
 -- `deltas::apply::delta_fault` meets its contract. Assumes nothing.
-use Rattle.sheet.proofs.Sounds.{used-is, sound-reads}
+use Rattle.changes.proofs.Sounds.{used-is, sound-reads}
 use Rattle.sheet.proofs.Ranges.{length-is}
 use Rattle.deltas.proofs.Reading.{many-none}
 use borrow.Author.Needs.{needs}

@@ -1,6 +1,6 @@
 -- `deltas::frame::carry_all` meets its contract. Assumes nothing.
 use mathlib.Core.Path.{refl}
-use Rattle.sheet.proofs.Works.{load-is, granted-is}
+use Rattle.changes.proofs.Works.{load-is, granted-is}
 use Rattle.deltas.specs.Turns.{laid, given}
 use Rattle.deltas.proofs.Frames.{stands-first, tried-all, tried-not}
 use borrow.Author.Needs.{needs}

@@ -1,5 +1,5 @@
 -- `sheet::faults::in_pair` meets its contract. Assumes nothing.
-use Rattle.sheet.proofs.Sounds.{used-is, sound-reads}
+use Rattle.changes.proofs.Sounds.{used-is, sound-reads}
 use borrow.Author.Needs.{needs}
 use Rattle.sheet.proofs.faults.in_pair.Statement.{statement}
 use Rattle.sheet.proofs.faults.in_pair.Tie as tie

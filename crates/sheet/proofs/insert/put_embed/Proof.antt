@@ -8,11 +8,11 @@ use Rattle.attrs.specs.Packed.{says}
 use Rattle.rules.specs.Calls.{Call}
 use Rattle.rules.specs.Rulings.{ruling}
 use Rattle.items.specs.Memory.{modelOf, soundOf}
-use Rattle.sheet.specs.Changes.{Ready}
+use Rattle.changes.specs.Changes.{Ready}
 use Rattle.sheet.specs.Inserts.{embedCall}
-use Rattle.sheet.proofs.Works.{granted-by}
-use Rattle.sheet.proofs.Sounds.{sound-loads}
-use Rattle.sheet.proofs.Calls.{carry-unsound, carry-faulty, carry-edited}
+use Rattle.changes.proofs.Works.{granted-by}
+use Rattle.changes.proofs.Sounds.{sound-loads}
+use Rattle.changes.proofs.Calls.{carry-unsound, carry-faulty, carry-edited}
 use Rattle.sheet.proofs.Inserts.{embedRuled, embed-ruled, embed-ready}
 use borrow.Author.Needs.{needs}
 use Rattle.sheet.proofs.insert.put_embed.Statement.{statement}

@@ -12,11 +12,11 @@ use Rattle.rules.specs.Calls.{Call}
 use Rattle.rules.specs.Rulings.{ruling}
 use Rattle.items.specs.Memory.{modelOf, soundOf}
 use Rattle.items.proofs.Soundness.{sound-parts}
-use Rattle.sheet.specs.Changes.{Ready}
+use Rattle.changes.specs.Changes.{Ready}
 use Rattle.sheet.specs.Inserts.{textCall}
-use Rattle.sheet.proofs.Works.{granted-by}
-use Rattle.sheet.proofs.Sounds.{sound-loads}
-use Rattle.sheet.proofs.Calls.{carry-unsound, carry-quiet, carry-faulty, carry-crowded, carry-granted}
+use Rattle.changes.proofs.Works.{granted-by}
+use Rattle.changes.proofs.Sounds.{sound-loads}
+use Rattle.changes.proofs.Calls.{carry-unsound, carry-quiet, carry-faulty, carry-crowded, carry-granted}
 use Rattle.sheet.proofs.Inserts.{textRuled, text-ruled, text-quiet, text-long, text-ready}
 use borrow.Author.Needs.{needs}
 use Rattle.sheet.proofs.insert.put_text.Statement.{statement}

@@ -6,9 +6,9 @@ use denote.Ref.{now}
 use Rattle.attrs.specs.Packed.{says}
 use Rattle.rules.specs.Calls.{Call, formatRange}
 use Rattle.items.specs.Memory.{soundOf}
-use Rattle.sheet.specs.Changes.{moveOf}
-use Rattle.sheet.proofs.Sounds.{sound-loads}
-use Rattle.sheet.proofs.Calls.{carry-unsound, carry-faulty, carry-edited}
+use Rattle.changes.specs.Changes.{moveOf}
+use Rattle.changes.proofs.Sounds.{sound-loads}
+use Rattle.changes.proofs.Calls.{carry-unsound, carry-faulty, carry-edited}
 use borrow.Author.Needs.{needs}
 use Rattle.sheet.proofs.range.format.Statement.{statement}
 use Rattle.sheet.proofs.range.format.Tie as tie

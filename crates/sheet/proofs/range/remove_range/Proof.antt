@@ -5,9 +5,9 @@ use borrow.Author.Tests.{not-true, not-false}
 use denote.Ref.{now}
 use Rattle.rules.specs.Calls.{Call, removeRange}
 use Rattle.items.specs.Memory.{soundOf}
-use Rattle.sheet.specs.Changes.{moveOf}
-use Rattle.sheet.proofs.Sounds.{sound-loads}
-use Rattle.sheet.proofs.Calls.{carry-unsound, carry-faulty, carry-quiet, carry-edited}
+use Rattle.changes.specs.Changes.{moveOf}
+use Rattle.changes.proofs.Sounds.{sound-loads}
+use Rattle.changes.proofs.Calls.{carry-unsound, carry-faulty, carry-quiet, carry-edited}
 use Rattle.sheet.proofs.Ranges.{remove-quiet, remove-ruled}
 use borrow.Author.Needs.{needs}
 use Rattle.sheet.proofs.range.remove_range.Statement.{statement}

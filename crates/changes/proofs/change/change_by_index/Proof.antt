@@ -1,14 +1,14 @@
--- `sheet::change::change_by_index` meets its contract: the place, then the change. Assumes nothing.
+-- `changes::change::change_by_index` meets its contract: the place, then the change. Assumes nothing.
 use native.Mathlib.Omega.{arith}
 use Rattle.laws.proofs.Room.{place-next}
 use Rattle.arena.proofs.Carried.{carried-then}
 use Rattle.marks.proofs.Rooms.{carried-room}
 use Rattle.attrs.specs.Packed.{says}
-use Rattle.sheet.specs.Changes.{moveOf}
-use Rattle.sheet.proofs.Works.{worked}
+use Rattle.changes.specs.Changes.{moveOf}
+use Rattle.changes.proofs.Works.{worked}
 use borrow.Author.Needs.{needs}
-use Rattle.sheet.proofs.change.change_by_index.Statement.{statement}
-use Rattle.sheet.proofs.change.change_by_index.Tie as tie
+use Rattle.changes.proofs.change.change_by_index.Statement.{statement}
+use Rattle.changes.proofs.change.change_by_index.Tie as tie
 
 find-position-requires : tie.Need-find-position-requires
 find-position-requires c κs = search needs

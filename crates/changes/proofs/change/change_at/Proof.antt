@@ -1,11 +1,11 @@
--- `sheet::change::change_at` meets its contract: each change by its edit. Assumes nothing.
+-- `changes::change::change_at` meets its contract: each change by its edit. Assumes nothing.
 use mathlib.Core.Path.{subst}
 use native.Mathlib.Omega.{arith}
-use Rattle.sheet.specs.Changes.{moveOf, Ready}
-use Rattle.sheet.proofs.Works.{changed}
+use Rattle.changes.specs.Changes.{moveOf, Ready}
+use Rattle.changes.proofs.Works.{changed}
 use borrow.Author.Needs.{needs}
-use Rattle.sheet.proofs.change.change_at.Statement.{statement}
-use Rattle.sheet.proofs.change.change_at.Tie as tie
+use Rattle.changes.proofs.change.change_at.Statement.{statement}
+use Rattle.changes.proofs.change.change_at.Tie as tie
 
 enum-known-change : tie.Need-enum-known-change
 enum-known-change c = search needs

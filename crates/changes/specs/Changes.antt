@@ -9,8 +9,8 @@ use Rattle.items.specs.declared.word.Content.{Content}
 use Rattle.items.specs.declared.word.Content.the-variants.{Text, Embed, Mark}
 use Rattle.items.specs.Word.{whatOf}
 use Rattle.arena.specs.Places.{InRange}
-use Rattle.sheet.specs.declared.change.Change.{Change}
-use Rattle.sheet.specs.declared.change.Change.the-variants.{PlainText, PlainEmbed, With, Format, Remove}
+use Rattle.changes.specs.declared.change.Change.{Change}
+use Rattle.changes.specs.declared.change.Change.the-variants.{PlainText, PlainEmbed, With, Format, Remove}
 
 -- The rule that a change follows, with the attribute set that lies beside it.
 unfoldable pub moveOf : Change → Set → Move

@@ -4,8 +4,8 @@ ghost use Prim.Native.Nat.{_≤_};
 ghost use Rattle.attrs.specs.Packed.{says};
 ghost use Rattle.rules.specs.Edits.{byIndex};
 ghost use Rattle.items.specs.Memory.{listOf};
-ghost use Rattle.sheet.specs.Changes.{moveOf, Ready};
-ghost use Rattle.sheet.specs.Frame.{left, granted, Loadable};
+ghost use Rattle.changes.specs.Changes.{moveOf, Ready};
+ghost use Rattle.changes.specs.Frame.{left, granted, Loadable};
 use crate::change::Change;
 use crate::change::change_by_index;
 use arena::copies::copy;
@@ -15,7 +15,7 @@ use items::head::Head;
 
 // The working copy has room for whatever one edit makes, so that 4 is decided by what it made and the sheet is still untouched.
 // `used` is how many units the sheet has in use afterwards.
-pub(crate) fn edit(
+pub fn edit(
     h: Head,
     items: &mut [u64],
     index: u32,

@@ -27,9 +27,9 @@ use Rattle.arena.specs.Writes.{copied}
 use Rattle.arena.proofs.Standing.{parts}
 use Rattle.arena.proofs.Steps.{start-stands}
 use Rattle.arena.proofs.Copied.{Kept, copy-keeps, load-arena}
-use Rattle.sheet.specs.declared.change.Change.{Change}
-use Rattle.sheet.specs.Changes.{moveOf}
-use Rattle.sheet.specs.Frame.{Left, granted, Loadable, Worked}
+use Rattle.changes.specs.declared.change.Change.{Change}
+use Rattle.changes.specs.Changes.{moveOf}
+use Rattle.changes.specs.Frame.{Left, granted, Loadable, Worked}
 
 -- ---- loaded
 module _ (h : Head) (m to : List ℕ) (ok : Loadable h m) (long : length to ≡ SIZE) where

@@ -18,7 +18,7 @@ use Rattle.items.specs.Memory.{listOf, modelOf, soundOf, stored, storedUnits, C
 use Rattle.items.proofs.Soundness.{sound-parts}
 use Rattle.items.proofs.Carries.{carry-broken}
 use Rattle.items.proofs.Models.{used-length, model-sound, sound-head, sound-stored, sound-units}
-use Rattle.sheet.specs.Frame.{Left, granted}
+use Rattle.changes.specs.Frame.{Left, granted}
 
 pub carry-unsound : (c : Call) (h : Head) (m u : List ℕ) → soundOf h m u ≡ false → keptAll 9 h m u ≡ carry c h m u
 carry-unsound c h m u e = sym (carry-broken (call c) h m u e)

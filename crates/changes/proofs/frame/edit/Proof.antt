@@ -1,12 +1,12 @@
--- `sheet::frame::edit` meets its contract. Assumes nothing.
+-- `changes::frame::edit` meets its contract. Assumes nothing.
 use native.Mathlib.Omega.{arith}
 use mathlib.Core.Path.{refl}
 use Rattle.attrs.specs.Packed.{says}
-use Rattle.sheet.specs.Changes.{moveOf}
-use Rattle.sheet.proofs.Works.{load-is, worked-loaded, granted-not, granted-is}
+use Rattle.changes.specs.Changes.{moveOf}
+use Rattle.changes.proofs.Works.{load-is, worked-loaded, granted-not, granted-is}
 use borrow.Author.Needs.{needs}
-use Rattle.sheet.proofs.frame.edit.Statement.{statement}
-use Rattle.sheet.proofs.frame.edit.Tie as tie
+use Rattle.changes.proofs.frame.edit.Statement.{statement}
+use Rattle.changes.proofs.frame.edit.Tie as tie
 
 slice-aggregate-copy : tie.Need-slice-aggregate-copy
 slice-aggregate-copy c = search needs

@@ -4,8 +4,8 @@ ghost use Rattle.attrs.specs.Packed.{says};
 ghost use Rattle.rules.specs.Edits.{byIndex};
 ghost use Rattle.items.specs.Memory.{listOf};
 ghost use Rattle.arena.specs.Places.{SIZE, Arena, Standing, Carried};
-ghost use Rattle.sheet.specs.Changes.{moveOf, Ready};
-ghost use Rattle.sheet.specs.Frame.{Worked};
+ghost use Rattle.changes.specs.Changes.{moveOf, Ready};
+ghost use Rattle.changes.specs.Frame.{Worked};
 use arena::At;
 use arena::Place;
 use arena::find::find_position;
@@ -27,7 +27,7 @@ pub enum Change {
     Remove(u32),
 }
 
-pub(crate) fn change_at(h: Head, work: &mut [u64], p: Place, change: Change, attrs: Attrs) -> At
+pub fn change_at(h: Head, work: &mut [u64], p: Place, change: Change, attrs: Attrs) -> At
     requires { ⌜ Standing h (now work) p × (h .items + 33 ≤ SIZE) × Ready change ⌝ }
     ensures { λ r. ⌜ Carried (moveOf change (says attrs)) h (now (work .entry)) p (r .head) (now (work .exit)) (r .place) ⌝ }
 {
@@ -40,13 +40,7 @@ pub(crate) fn change_at(h: Head, work: &mut [u64], p: Place, change: Change, att
     }
 }
 
-pub(crate) fn change_by_index(
-    h: Head,
-    work: &mut [u64],
-    index: u32,
-    change: Change,
-    attrs: Attrs,
-) -> Head
+pub fn change_by_index(h: Head, work: &mut [u64], index: u32, change: Change, attrs: Attrs) -> Head
     requires { ⌜ Arena h (now work) × (h .items + 34 ≤ SIZE) × Ready change ⌝ }
     ensures { λ r. ⌜ Worked (byIndex index (moveOf change (says attrs)) (listOf h (now (work .entry))) (h .items)) r (now (work .exit)) ⌝ }
 {

@@ -19,7 +19,7 @@ use Rattle.items.proofs.Stored.{range-parts}
 use Rattle.items.proofs.Models.{used-length, model-sound, sound-word}
 use Rattle.arena.specs.Places.{InRange, Neat}
 use Rattle.cuts.specs.Cuts.{Readable}
-use Rattle.sheet.specs.Frame.{Loadable}
+use Rattle.changes.specs.Frame.{Loadable}
 
 -- ---- its words are neat
 ok-range : (u : List ℕ) (used : ℕ) (c : Content) → used ≤ 16384 → Fitting c → whatOk u used (whatOf c) ≡ true → InRange c

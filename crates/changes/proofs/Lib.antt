@@ -1,0 +1,3 @@
+pub mod Works
+pub mod Sounds
+pub mod Calls
