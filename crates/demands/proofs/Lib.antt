@@ -3,5 +3,7 @@ pub mod Fair
 pub mod Back
 pub mod Pages
 pub mod Transaction
+pub mod Requests
 pub mod Settled
+pub mod Listing
 pub mod Bench

@@ -38,14 +38,22 @@ key-from (suc n) k j l h = go (eqb j k) refl (λ m. key-from n (suc k) j m (omeg
     go true e on = here (eqb-true j k e)
     go false e on = let q = eqb-false j k e in there (on (omega arith))
 
--- A number below 16 is a key.
+from-below : (n k j : ℕ) → In j (keysFrom k n) → j < k + n
+from-below (suc n) k j (here e) = omega arith
+from-below (suc n) k j (there i) = omega (arith, from-below n (suc k) j i)
+
+-- The keys are the numbers below 16.
 pub key-in : (j : ℕ) → j < 16 → In j keys
 unfolding keys
 key-in j l = key-from 16 0 j (omega arith) (omega arith)
 
+pub key-below : (j : ℕ) → In j keys → j < 16
+unfolding keys
+key-below j i = from-below 16 0 j i
+
 -- ---- reading
 module _ (u : List ℕ) where
-  paint-spelled : (v : ℕ) (gs : List Glyph) → paint v (map (spelled u) gs) ≡ map (spelledCell u) (paint v gs)
+  pub paint-spelled : (v : ℕ) (gs : List Glyph) → paint v (map (spelled u) gs) ≡ map (spelledCell u) (paint v gs)
   paint-spelled v [] = refl
   paint-spelled v (g ∷ gs) = ap (λ (x : List Cell). record { glyph = spelled u g; value = v } ∷ x) (paint-spelled v gs)
 
