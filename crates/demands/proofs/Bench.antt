@@ -19,19 +19,23 @@ use Rattle.items.specs.Heads.{freshHead}
 use Rattle.items.specs.Memory.{stored}
 use Rattle.items.proofs.Soundness.{sound-whole}
 use Rattle.items.proofs.Models.{stored-sound, stored-model}
-use Rattle.demands.specs.Steps.{freshState, sound, model, does, numbers, callsOf}
+use Rattle.demands.specs.Steps.{Step, after, freshState, sound, model, does, numbers, callsOf}
 use Rattle.demands.specs.Bench.{startIn, afterCalls, playedIn}
 use Rattle.demands.proofs.Bridge.{after-sound, after-model, numbers-ruled}
 
 -- ---- a fresh sheet
 module _ (m u : List ℕ) (words : length m ≡ 2048) (room : length u ≡ 16384) where
-  fresh-lies : sound (freshState m u) ≡ true
+  pub fresh-lies : sound (freshState m u) ≡ true
   unfolding stored headOr
   fresh-lies = sound-whole freshHead m u (stored-sound freshSheet freshHead m u fresh-sound words room)
 
-  fresh-model : model (freshState m u) ≡ freshSheet
+  pub fresh-model : model (freshState m u) ≡ freshSheet
   unfolding stored headOr
   fresh-model = stored-model freshSheet freshHead m u fresh-sound words room
+
+-- Every sheet that calls make of it is sound.
+pub made-lies : (m u : List ℕ) → length m ≡ 2048 → length u ≡ 16384 → (ts : List Step) → FineCalls (callsOf ts) → sound (after ts (freshState m u)) ≡ true
+made-lies m u words room ts d = after-sound ts d (freshState m u) (fresh-lies m u words room)
 
 -- ---- one piece
 calls-same : (cs : List Call) → callsOf (map does cs) ≡ cs

@@ -40,6 +40,11 @@ turned-keeps n s = go (sound s)
     go true = refl
     go false = refl
 
+-- An unsound sheet is refused with 9, and all is kept.
+pub broken-step : (t : Step) (s : State) → sound s ≡ false → answered t s ≡ keptAll 9 (s .head) (s .words) (s .units)
+broken-step (does c) s e = carry-broken (call c) (s .head) (s .words) (s .units) e
+broken-step (turned n) s e = rw e
+
 -- A delta in memory is a step.
 pub delta-step : (many short : Bool) (ops : List (Op Body)) (h : Head) (m u : List ℕ)
     → cond (soundOf h m u) (cond many (keptAll 7 h m u) (cond short (keptAll 8 h m u) (carry (applyDelta ops) h m u))) (keptAll 9 h m u)
@@ -49,12 +54,11 @@ delta-step many short ops h m u = go (soundOf h m u) refl many short
     go : (b : Bool) → soundOf h m u ≡ b → (many short : Bool)
         → cond b (cond many (keptAll 7 h m u) (cond short (keptAll 8 h m u) (carry (applyDelta ops) h m u))) (keptAll 9 h m u)
         ≡ answered (deltaStep many short ops) (record { head = h; words = m; units = u })
-    go true e true short = rw e
+    go true e true true = rw e
+    go true e true false = rw e
     go true e false true = rw e
     go true e false false = refl
-    go false e true short = rw e
-    go false e false true = rw e
-    go false e false false = sym (carry-broken (call (applyDelta ops)) h m u e)
+    go false e many short = sym (broken-step (deltaStep many short ops) (record { head = h; words = m; units = u }) e)
 
 -- ---- any steps
 -- The sheet stays sound ..

@@ -1,10 +1,10 @@
 -- The runs that a sheet in memory hands out show what is seen, and joined ones cannot be joined further. Assumes nothing.
-use Prim.Native.Nat.{ℕ, zero, suc, _+_, _≤_, _<_}
+use Prim.Native.Nat.{ℕ, suc, _+_, _<_}
 use native.Mathlib.Omega.{arith}
 use mathlib.Core.Path.{_≡_, refl, sym, ap, ap₂, subst, _∙_}
 use mathlib.Core.Bool.{Bool, true, false, cond, not, true≢false}
 use mathlib.Core.List.{List, [], _∷_, _++_, map, append-assoc}
-use lib.ListN.{length, take, drop, length-append, length-map}
+use lib.ListN.{length, take, drop, length-append, length-map, drop-of-length-le}
 use lib.Seq.{take-append-seam, drop-at}
 use Rattle.attrs.specs.Sets.{Slot, Set, isAbsent, keys, those, present, asSet}
 use Rattle.attrs.specs.Packed.{says, envOf, packed}
@@ -16,8 +16,9 @@ use Rattle.rules.proofs.Lists.{In, here, there, map-append}
 use Rattle.rules.proofs.Cuts.{glyphsIn, in-cells}
 use Rattle.rules.proofs.Runs.{runCells, runs-cells, joined-cells, Maximal, none-left, one-left, apart, joined-maximal, apart-differ}
 use Rattle.runs.specs.declared.run.Run.{Run}
+use Rattle.runs.specs.declared.calls.Count.{Count}
 use Rattle.runs.specs.Records.{lenOf, recordOf, recordsOf, runsBy, records}
-use Rattle.runs.specs.Answers.{recordsIn, answer, counted, first, nothing, runAt}
+use Rattle.runs.specs.Answers.{recordsIn, answer, counted, Said, first, runAt}
 use Rattle.demands.specs.Steps.{State, sound, model}
 use Rattle.demands.specs.Written.{spelled, spelledCell}
 use Rattle.demands.specs.Listing.{runsRead, allRuns, runGlyphs, runsShow, visibleOf, Apart, Counted, Listed}
@@ -36,12 +37,6 @@ module _ (s : State) (ok : sound s ≡ true) (b : Bool) where
   unfolding runAt
   at-is n = rw ok
 
-  drop-none : (xs : List Run) (n : ℕ) → length xs ≤ n → drop n xs ≡ []
-  drop-none [] zero h = refl
-  drop-none [] (suc n) h = refl
-  drop-none (x ∷ xs) zero h = absurd (omega arith)
-  drop-none (x ∷ xs) (suc n) h = drop-none xs n (omega arith)
-
   -- run by run
   read-on : (xs pre : List Run) → pre ++ xs ≡ rs → runsRead s b (length pre) (length xs) ≡ xs
   read-on [] pre e = refl
@@ -49,11 +44,11 @@ module _ (s : State) (ok : sound s ≡ true) (b : Bool) where
       let d : drop (length pre) rs ≡ x ∷ xs = ap (drop (length pre)) (sym e) ∙ drop-at pre (x ∷ xs) (length pre) refl in
       let n : length (pre ++ (x ∷ [])) ≡ suc (length pre) = omega (arith, length-append pre (x ∷ [])) in
       ap₂ (λ (y : Run) (ys : List Run). y ∷ ys)
-      (ap (λ (z : _). z .run) (at-is (length pre) ∙ ap first d))
+      (ap (λ (z : Said). z .run) (at-is (length pre) ∙ ap first d))
       (sym (ap (λ (k : ℕ). runsRead s b k (length xs)) n) ∙ read-on xs (pre ++ (x ∷ [])) (append-assoc pre (x ∷ []) xs ∙ e))
 
   pub all-read : allRuns s b ≡ rs
-  all-read = ap (runsRead s b 0) (ap (λ (z : _). z .count) counted-is) ∙ read-on rs [] refl
+  all-read = ap (runsRead s b 0) (ap (λ (z : Count). z .count) counted-is) ∙ read-on rs [] refl
 
 -- ---- what the records show
 abbrev allGlyphs : List Stretch → List Glyph
@@ -144,8 +139,8 @@ by-apart false e rs m = absurd (true≢false (sym e))
 -- The runs of a sound sheet in memory.
 pub runs-listed : (s : State) → sound s ≡ true → (b : Bool) → Listed s b
 runs-listed s ok b = record {
-  accepted = ap (λ (z : _). z .refusal) (counted-is s ok b);
-  past = λ n h. at-is s ok b n ∙ ap first (drop-none s ok b (recordsIn (s .head) (s .words) b) n (omega (arith, ap (λ (z : _). z .count) (counted-is s ok b))));
+  accepted = ap (λ (z : Count). z .refusal) (counted-is s ok b);
+  past = λ n h. at-is s ok b n ∙ ap first (drop-of-length-le (recordsIn (s .head) (s .words) b) {i = n} (omega (arith, ap (λ (z : Count). z .count) (counted-is s ok b))));
   shows = λ j l.
       let rs = runsBy b (runs (model s .items)) in
       ap (runsShow j (visibleOf s)) (all-read s ok b)

@@ -3,8 +3,10 @@ use native.Mathlib.Omega.{arith}
 use mathlib.Core.Path.{_≡_, refl, sym, ap, _∙_}
 use mathlib.Core.Bool.{Bool, true, false, cond}
 use Rattle.rules.specs.Calls.{Sheet, Call, call}
-use Rattle.rules.specs.Rulings.{ruling, ruled, FineCall}
+use Rattle.rules.specs.Reading.{visible}
+use Rattle.rules.specs.Rulings.{Within, ruling, ruled, FineCall}
 use Rattle.rules.proofs.Calls.{call-accepted}
+use Rattle.rules.proofs.Shows.{call-length}
 use Rattle.items.specs.Memory.{Carried, keptAll, storedAll}
 use Rattle.items.proofs.Soundness.{sound-parts}
 use Rattle.items.proofs.Models.{model-sound}
@@ -27,16 +29,19 @@ module _ (c : Call) (fine : FineCall c) (s : State) where
       go true e = e
       go false e = absurd (omega (arith, broken-exactly c (s .head) (s .words) (s .units) .1 e))
 
+  within : r .refusal ≡ 0 → Within (model s)
+  within z = model-sound (s .head) (s .words) (s .units) (sound-parts (s .head) (s .words) (s .units) (was-sound z)) .within
+
+  -- by the rules it is accepted too
+  accepted : r .refusal ≡ 0 → call c (model s) .refusal ≡ 0
+  accepted z = sym (refusal-is c (s .head) (s .words) (s .units) (was-sound z)) ∙ z
+
   ruled-is : r .refusal ≡ 0 → call c (model s) .sheet ≡ ruled (ruling c (model s))
-  ruled-is z =
-      let ok = was-sound z in
-      call-accepted c (model s) (model-sound (s .head) (s .words) (s .units) (sound-parts (s .head) (s .words) (s .units) ok) .within)
-      (sym (refusal-is c (s .head) (s .words) (s .units) ok) ∙ z)
+  ruled-is z = call-accepted c (model s) (within z) (accepted z)
 
   stored-is : r .refusal ≡ 0 → r ≡ storedAll (ruled (ruling c (model s))) (s .head) (s .words) (s .units)
   stored-is z =
-      let ok = was-sound z in
-      carry-done (call c) (s .head) (s .words) (s .units) ok (sym (refusal-is c (s .head) (s .words) (s .units) ok) ∙ z)
+      carry-done (call c) (s .head) (s .words) (s .units) (was-sound z) (accepted z)
       ∙ ap (λ (x : Sheet). storedAll x (s .head) (s .words) (s .units)) (ruled-is z)
 
   called : Called c s
@@ -49,6 +54,7 @@ module _ (c : Call) (fine : FineCall c) (s : State) where
     sound = λ ok. leaves-sound c (s .head) (s .words) (s .units) ok fine;
     pairs = λ ok. leaves-pairs c (s .head) (s .words) (s .units) ok fine;
     shown = λ z j l. leaves-cells c (s .head) (s .words) (s .units) (was-sound z) fine z j (key-in j l);
+    long = λ z. ap (λ (x : Sheet). visible (x .items)) (call-model c fine s (was-sound z)) ∙ call-length c (model s) (within z) (accepted z);
   }
 
 -- The first and the second demand.

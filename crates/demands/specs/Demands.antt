@@ -5,12 +5,12 @@ use mathlib.Core.Bool.{true, false, cond}
 use mathlib.Core.List.{List, map}
 use mathlib.Core.Logic.{_↔_}
 use lib.ListN.{length}
-use Rattle.rules.specs.Reading.{live, before, cells, seenGlyphs, read}
+use Rattle.rules.specs.Reading.{live, before, cells, seenGlyphs, visible, read}
 use Rattle.rules.specs.Event.{event}
 use Rattle.rules.specs.Scripts.{Tells}
 use Rattle.rules.specs.Calls.{Call, AllPaired}
 use Rattle.rules.specs.Rulings.{ruling, ruled, unwhole, inPair, tooFar, crowded, Exactly, FineCall}
-use Rattle.rules.specs.Shows.{shows}
+use Rattle.rules.specs.Shows.{shows, lengthAfter}
 use Rattle.items.specs.Memory.{storedAll}
 use Rattle.events.specs.Told.{Ops}
 use Rattle.events.specs.Given.{refusal, fitsIn}
@@ -56,8 +56,9 @@ pub record Called (c : Call) (s : State) : Type 0 where
   -- A sound sheet stays sound, and no piece holds half a pair.
   pub sound : steps.sound s ≡ true → steps.sound (left (answered (does c) s)) ≡ true
   pub pairs : steps.sound s ≡ true → AllPaired (model (left (answered (does c) s)) .units) (model (left (answered (does c) s)) .items)
-  -- What is seen then, for any key.
+  -- What is seen then, for any key, and how long it is.
   pub shown : answered (does c) s .refusal ≡ 0 → (j : ℕ) → j < 16 → cells live j 0 (model (left (answered (does c) s)) .items) ≡ shows j c (model s)
+  pub long : answered (does c) s .refusal ≡ 0 → visible (model (left (answered (does c) s)) .items) ≡ lengthAfter c (model s)
 
 -- A delta that is turned away keeps all, and answers its number on a sound sheet.
 pub record TurnedAway (n : ℕ) (s : State) : Type 0 where
