@@ -1,5 +1,5 @@
 -- The starred bench pieces hold in memory, from a fresh head and whatever lies in the buffers. Assumes nothing.
-use Prim.Native.Nat.{ℕ, _<_}
+use Prim.Native.Nat.{ℕ, _≤_, _<_}
 use native.Mathlib.Omega.{arith}
 use mathlib.Core.Path.{_≡_, refl, ap, ap₂, subst⁻¹, _∙_}
 use mathlib.Core.Bool.{Bool, true, false, cond}
@@ -9,7 +9,7 @@ use lib.ListN.{length}
 use Rattle.attrs.specs.Sets.{absent, is, empty, keys}
 use Rattle.rules.specs.Calls.{Sheet, freshSheet, Call, insertText, call}
 use Rattle.rules.specs.Rulings.{Byte, FineSet}
-use Rattle.rules.specs.PieceParts.{Piece, piece, answer, after as ruledAfter, refusals, played, one}
+use Rattle.rules.specs.PieceParts.{Says, answer, Piece, piece, after as ruledAfter, refusals, played, one}
 use Rattle.rules.specs.Turns.{moving, deleting, refusing, showing}
 use Rattle.rules.specs.Pieces.{starred, bench}
 use Rattle.rules.proofs.Calls.{fresh-sound}
@@ -20,8 +20,9 @@ use Rattle.items.specs.Memory.{stored}
 use Rattle.items.proofs.Soundness.{sound-whole}
 use Rattle.items.proofs.Models.{stored-sound, stored-model}
 use Rattle.demands.specs.Steps.{Step, after, freshState, sound, model, does, numbers, callsOf}
-use Rattle.demands.specs.Bench.{startIn, afterCalls, playedIn}
+use Rattle.demands.specs.Bench.{answerBy, startIn, afterCalls, playedIn}
 use Rattle.demands.proofs.Bridge.{after-sound, after-model, numbers-ruled}
+use Rattle.demands.proofs.Said.{asked}
 
 -- ---- a fresh sheet
 module _ (m u : List ℕ) (words : length m ≡ 2048) (room : length u ≡ 16384) where
@@ -42,6 +43,10 @@ calls-same : (cs : List Call) → callsOf (map does cs) ≡ cs
 calls-same [] = refl
 calls-same (c ∷ cs) = ap (λ (x : List Call). c ∷ x) (calls-same cs)
 
+map-same : (f g : Says → Says) → ((q : Says) → f q ≡ g q) → (qs : List Says) → map f qs ≡ map g qs
+map-same f g h [] = refl
+map-same f g h (q ∷ qs) = ap₂ (λ (x : Says) (xs : List Says). x ∷ xs) (h q) (map-same f g h qs)
+
 -- its start is its text put into a fresh sheet, and its calls can be handed in
 abbrev Ready : Piece → Type 0
 Ready (piece s cs ns says) = (call (insertText 0 (s .units)) freshSheet .sheet ≡ s) × FineCalls cs
@@ -50,8 +55,8 @@ abbrev AllReady : List Piece → Type 0
 AllReady [] = Unit {0}
 AllReady (p ∷ ps) = Ready p × AllReady ps
 
-module _ (m u : List ℕ) (words : length m ≡ 2048) (room : length u ≡ 16384) where
-  played-same : (p : Piece) → Ready p → playedIn m u p ≡ played p
+module _ (m u w o : List ℕ) (words : length m ≡ 2048) (room : length u ≡ 16384) (lw : 16384 ≤ length w) (lo : 16384 ≤ length o) where
+  played-same : (p : Piece) → Ready p → playedIn m u w o p ≡ played p
   played-same (piece s cs ns says) r =
       let fresh = fresh-lies m u words room in
       let k = startIn m u s in
@@ -61,10 +66,12 @@ module _ (m u : List ℕ) (words : length m ≡ 2048) (room : length u ≡ 16384
       let nums : numbers (map does cs) k ≡ refusals cs s = numbers-ruled cs (r .1) k ok ∙ ap (refusals cs) start in
       let end : model (afterCalls cs k) ≡ ruledAfter cs s =
       after-model (map does cs) (subst⁻¹ FineCalls (calls-same cs) (r .1)) k ok ∙ ap₂ ruledAfter (calls-same cs) start in
-      ap₂ (λ (x : Sheet) (y : List ℕ). piece x cs y (map (answer (model (afterCalls cs k))) says)) start nums
+      let fine : FineCalls (callsOf (map does cs)) = subst⁻¹ FineCalls (calls-same cs) (r .1) in
+      ap₂ (λ (x : Sheet) (y : List ℕ). piece x cs y (map (answerBy (afterCalls cs k) w o) says)) start nums
+      ∙ ap (piece s cs (refusals cs s)) (map-same (answerBy (afterCalls cs k) w o) (answer (model (afterCalls cs k))) (asked (afterCalls cs k) (after-sound (map does cs) fine k ok) w o lw lo) says)
       ∙ ap (λ (x : Sheet). piece s cs (refusals cs s) (map (answer x) says)) end
 
-  all-same : (ps : List Piece) → AllReady ps → map (playedIn m u) ps ≡ map played ps
+  all-same : (ps : List Piece) → AllReady ps → map (playedIn m u w o) ps ≡ map played ps
   all-same [] r = refl
   all-same (p ∷ ps) r = ap₂ (λ (x : Piece) (xs : List Piece). x ∷ xs) (played-same p (r .0)) (all-same ps (r .1))
 
@@ -101,5 +108,6 @@ starred-played : map played starred ≡ starred
 starred-played =
     front played starred moving (front played (starred ++ moving) deleting (front played (starred ++ moving ++ deleting) refusing (front played (starred ++ moving ++ deleting ++ refusing) showing bench)))
 
-pub bench-in-memory : (m u : List ℕ) → length m ≡ 2048 → length u ≡ 16384 → map (playedIn m u) starred ≡ starred
-bench-in-memory m u words room = all-same m u words room starred starred-ready ∙ starred-played
+-- m and u are the sheet's buffers, w and o are lent to `event`.
+pub bench-in-memory : (m u w o : List ℕ) → length m ≡ 2048 → length u ≡ 16384 → 16384 ≤ length w → 16384 ≤ length o → map (playedIn m u w o) starred ≡ starred
+bench-in-memory m u w o words room lw lo = all-same m u w o words room lw lo starred starred-ready ∙ starred-played

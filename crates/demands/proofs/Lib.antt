@@ -6,4 +6,5 @@ pub mod Transaction
 pub mod Requests
 pub mod Settled
 pub mod Listing
+pub mod Said
 pub mod Bench

@@ -7,10 +7,10 @@ use mathlib.Core.List.{List, [], _∷_, _++_, map, append-assoc}
 use lib.ListN.{length, take, drop, length-append, length-map, drop-of-length-le}
 use lib.Seq.{take-append-seam, drop-at}
 use Rattle.attrs.specs.Sets.{Slot, Set, isAbsent, keys, those, present, asSet}
-use Rattle.attrs.specs.Packed.{says, envOf, packed}
+use Rattle.attrs.specs.Packed.{says, packed}
 use Rattle.attrs.proofs.Force.{says-in, env-in}
 use Rattle.rules.specs.Sheet.{Item}
-use Rattle.rules.specs.Reading.{live, Glyph, thing, Cell, paint, cells, seenGlyphs}
+use Rattle.rules.specs.Reading.{live, Glyph, Cell, paint, cells, seenGlyphs}
 use Rattle.rules.specs.Runs.{Chunk, words, object, Run as Stretch, runs, isText, glyphsOf, joined}
 use Rattle.rules.proofs.Lists.{In, here, there, map-append}
 use Rattle.rules.proofs.Cuts.{glyphsIn, in-cells}
@@ -51,7 +51,7 @@ module _ (s : State) (ok : sound s ≡ true) (b : Bool) where
   all-read = ap (runsRead s b 0) (ap (λ (z : Count). z .count) counted-is) ∙ read-on rs [] refl
 
 -- ---- what the records show
-abbrev allGlyphs : List Stretch → List Glyph
+abbrev pub allGlyphs : List Stretch → List Glyph
 allGlyphs [] = []
 allGlyphs (r ∷ rs) = glyphsOf (r .chunk) ++ allGlyphs rs
 
@@ -67,31 +67,39 @@ len-glyphs : (c : Chunk) → length (glyphsOf c) ≡ lenOf c
 len-glyphs (words gs) = refl
 len-glyphs (object x) = refl
 
-module _ (u : List ℕ) (j : ℕ) (l : j < 16) where
-  one-shows : (c : Chunk) (pre rest : List Glyph) (n : ℕ) → length pre ≡ n
-      → cond (not (isText c)) (thing (recordOf n (record { chunk = c; force = λ k. 0 }) .number) ∷ []) (take (lenOf c) (drop n (pre ++ (map (spelled u) (glyphsOf c) ++ rest)))) ≡ map (spelled u) (glyphsOf c)
-  one-shows (words gs) pre rest n e =
-      ap (take (length gs)) (drop-at pre (map (spelled u) gs ++ rest) n e)
-      ∙ ap (λ (k : ℕ). take k (map (spelled u) gs ++ rest)) (sym (length-map gs (spelled u))) ∙ take-append-seam (map (spelled u) gs) rest
-  one-shows (object x) pre rest n e = refl
+module _ (u : List ℕ) where
+  -- Each record stands for the units of its run.
+  abbrev pub Stand : List Glyph → ℕ → List Stretch → Type 0
+  Stand gs n [] = Unit {0}
+  Stand gs n (r ∷ rs) = (runGlyphs gs (recordOf n r) ≡ map (spelled u) (glyphsOf (r .chunk))) × Stand gs (n + lenOf (r .chunk)) rs
 
-  records-show : (rs : List Stretch) (pre : List Glyph) (n : ℕ) → length pre ≡ n → runsShow j (pre ++ map (spelled u) (allGlyphs rs)) (recordsOf n rs) ≡ map (spelledCell u) (runCells j rs)
-  unfolding recordsOf
-  records-show [] pre n e = refl
-  records-show (r ∷ rs) pre n e =
+  one-stands : (r : Stretch) (pre rest : List Glyph) (n : ℕ) → length pre ≡ n → runGlyphs (pre ++ (map (spelled u) (glyphsOf (r .chunk)) ++ rest)) (recordOf n r) ≡ map (spelled u) (glyphsOf (r .chunk))
+  one-stands r pre rest n e = go (r .chunk)
+    where
+      go : (c : Chunk) → runGlyphs (pre ++ (map (spelled u) (glyphsOf c) ++ rest)) (recordOf n (record { chunk = c; force = r .force })) ≡ map (spelled u) (glyphsOf c)
+      go (words gs) =
+          ap (take (length gs)) (drop-at pre (map (spelled u) gs ++ rest) n e)
+          ∙ ap (λ (k : ℕ). take k (map (spelled u) gs ++ rest)) (sym (length-map gs (spelled u))) ∙ take-append-seam (map (spelled u) gs) rest
+      go (object x) = refl
+
+  all-stand : (rs : List Stretch) (pre : List Glyph) (n : ℕ) → length pre ≡ n → Stand (pre ++ map (spelled u) (allGlyphs rs)) n rs
+  all-stand [] pre n e = tt
+  all-stand (r ∷ rs) pre n e =
       let f = spelled u in
       let gs = glyphsOf (r .chunk) in
       let rest = map f (allGlyphs rs) in
       let a : pre ++ map f (gs ++ allGlyphs rs) ≡ pre ++ (map f gs ++ rest) = ap (λ (x : List Glyph). pre ++ x) (map-append f gs (allGlyphs rs)) in
-      let b : (pre ++ map f gs) ++ rest ≡ pre ++ (map f gs ++ rest) = append-assoc pre (map f gs) rest in
-      let m : length (pre ++ map f gs) ≡ n + lenOf (r .chunk) = omega (arith, length-append pre (map f gs), length-map gs f, len-glyphs (r .chunk)) in
-      let here : paint (envOf (packed (asSet (r .force))) j) (runGlyphs (pre ++ (map f gs ++ rest)) (recordOf n r)) ≡ map (spelledCell u) (paint (r .force j) gs) =
-      ap₂ paint (env-in (r .force) j l) (one-shows (r .chunk) pre rest n e) ∙ paint-spelled u (r .force j) gs in
-      let later : runsShow j (pre ++ (map f gs ++ rest)) (recordsOf (n + lenOf (r .chunk)) rs) ≡ map (spelledCell u) (runCells j rs) =
-      ap (λ (x : List Glyph). runsShow j x (recordsOf (n + lenOf (r .chunk)) rs)) (sym b) ∙ records-show rs (pre ++ map f gs) (n + lenOf (r .chunk)) m in
-      ap (λ (x : List Glyph). runsShow j x (recordOf n r ∷ recordsOf (n + lenOf (r .chunk)) rs)) a
-      ∙ ap₂ (λ (x y : List Cell). x ++ y) here later
-      ∙ sym (map-append (spelledCell u) (paint (r .force j) gs) (runCells j rs))
+      let m : length (pre ++ map f gs) ≡ n + lenOf (r .chunk) = omega (arith, length-append pre (map f gs), length-map gs f, len-glyphs (r .chunk)) in (
+        ap (λ (x : List Glyph). runGlyphs x (recordOf n r)) a ∙ one-stands r pre rest n e,
+        subst (λ (x : List Glyph). Stand x (n + lenOf (r .chunk)) rs) (append-assoc pre (map f gs) rest ∙ sym a) (all-stand rs (pre ++ map f gs) (n + lenOf (r .chunk)) m),
+      )
+
+  records-show : (j : ℕ) → j < 16 → (gs : List Glyph) (n : ℕ) (rs : List Stretch) → Stand gs n rs → runsShow j gs (recordsOf n rs) ≡ map (spelledCell u) (runCells j rs)
+  unfolding recordsOf
+  records-show j l gs n [] h = refl
+  records-show j l gs n (r ∷ rs) h =
+      ap₂ (λ (x y : List Cell). x ++ y) (ap₂ paint (env-in (r .force) j l) (h .0) ∙ paint-spelled u (r .force j) (glyphsOf (r .chunk))) (records-show j l gs (n + lenOf (r .chunk)) rs (h .1))
+      ∙ sym (map-append (spelledCell u) (paint (r .force j) (glyphsOf (r .chunk))) (runCells j rs))
 
 -- plain or joined, the cells are the list's
 by-cells : (b : Bool) (j : ℕ) → j < 16 → (l : List Item) → runCells j (runsBy b (runs l)) ≡ cells live j 0 l
@@ -99,8 +107,12 @@ unfolding runsBy
 by-cells false j h l = runs-cells j l
 by-cells true j h l = joined-cells j (key-in j h) (runs l) ∙ runs-cells j l
 
-by-glyphs : (b : Bool) (l : List Item) → allGlyphs (runsBy b (runs l)) ≡ seenGlyphs l
+pub by-glyphs : (b : Bool) (l : List Item) → allGlyphs (runsBy b (runs l)) ≡ seenGlyphs l
 by-glyphs b l = sym (cells-glyphs 0 (runsBy b (runs l))) ∙ ap glyphsIn (by-cells b 0 (omega arith) l) ∙ in-cells 0 0 l
+
+-- The visible text of a list has room for the records of its runs, each where it stands.
+pub runs-stand : (u : List ℕ) (b : Bool) (l : List Item) → Stand u (map (spelled u) (seenGlyphs l)) 0 (runsBy b (runs l))
+runs-stand u b l = subst (λ (x : List Glyph). Stand u (map (spelled u) x) 0 (runsBy b (runs l))) (by-glyphs b l) (all-stand u (runsBy b (runs l)) [] 0 refl)
 
 -- ---- keys counted, and neighbours apart
 those-same : (p q : ℕ → Bool) (ks : List ℕ) → ((k : ℕ) → In k ks → p k ≡ q k) → those p ks ≡ those q ks
@@ -142,10 +154,8 @@ runs-listed s ok b = record {
   accepted = ap (λ (z : Count). z .refusal) (counted-is s ok b);
   past = λ n h. at-is s ok b n ∙ ap first (drop-of-length-le (recordsIn (s .head) (s .words) b) {i = n} (omega (arith, ap (λ (z : Count). z .count) (counted-is s ok b))));
   shows = λ j l.
-      let rs = runsBy b (runs (model s .items)) in
       ap (runsShow j (visibleOf s)) (all-read s ok b)
-      ∙ ap (λ (x : List Glyph). runsShow j (map (spelled (s .units)) x) (recordsOf 0 rs)) (sym (by-glyphs b (model s .items)))
-      ∙ records-show (s .units) j l rs [] 0 refl
+      ∙ records-show (s .units) j l (visibleOf s) 0 (runsBy b (runs (model s .items))) (runs-stand (s .units) b (model s .items))
       ∙ ap (map (spelledCell (s .units))) (by-cells b j l (model s .items));
   counts = subst Counted (sym (all-read s ok b)) (records-counted 0 (runsBy b (runs (model s .items))));
   apart = λ e. subst Apart (sym (all-read s ok b)) (by-apart b e (runs (model s .items)) (joined-maximal (runs (model s .items))));

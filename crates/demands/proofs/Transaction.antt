@@ -57,10 +57,10 @@ module _ (k : State) (ok : sound k ≡ true) (w o : List ℕ) where
   wrote-kept : wrote k w o .answer .refusal ≡ 8 → wrote k w o ≡ record { answer = refusal 8; words = w; units = o }
   wrote-kept = wrote-cases (λ n x. n ≡ 8 → x ≡ record { answer = refusal 8; words = w; units = o }) (λ e. absurd (omega arith)) (λ e. refl)
 
-  wrote-room : 16384 ≤ length w → 16384 ≤ length o → wrote k w o .answer .refusal ≡ 0
+  pub wrote-room : 16384 ≤ length w → 16384 ≤ length o → wrote k w o .answer .refusal ≡ 0
   wrote-room a b = ap (λ (g : Given). g .answer .refusal) (event-room (k .head) (k .words) (k .units) (length w) (length o) ok a b)
 
-  wrote-back : wrote k w o .answer .refusal ≡ 0 → readEvent k w o ≡ map (spelledOp (k .units)) (eventOf k)
+  pub wrote-back : wrote k w o .answer .refusal ≡ 0 → readEvent k w o ≡ map (spelledOp (k .units)) (eventOf k)
   wrote-back =
       let s = sound-parts (k .head) (k .words) (k .units) ok in
       let f = event-fair (length (take (k .head .units) (k .units))) before live (model k .items) (model-sound (k .head) (k .words) (k .units) s .list .fit) in
