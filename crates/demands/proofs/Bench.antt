@@ -3,13 +3,13 @@ use Prim.Native.Nat.{ℕ, _≤_, _<_}
 use native.Mathlib.Omega.{arith}
 use mathlib.Core.Path.{_≡_, refl, ap, ap₂, subst⁻¹, _∙_}
 use mathlib.Core.Bool.{Bool, true, false, cond}
-use mathlib.Core.List.{List, [], _∷_, _++_, map}
+use mathlib.Core.List.{List, [], _∷_, _++_, map, map-congr-left}
 use lib.Dec.{eqb}
-use lib.ListN.{length}
+use lib.ListN.{length, take, drop}
 use Rattle.attrs.specs.Sets.{absent, is, empty, keys}
 use Rattle.rules.specs.Calls.{Sheet, freshSheet, Call, insertText, call}
 use Rattle.rules.specs.Rulings.{Byte, FineSet}
-use Rattle.rules.specs.PieceParts.{Says, answer, Piece, piece, after as ruledAfter, refusals, played, one}
+use Rattle.rules.specs.PieceParts.{answer, Piece, piece, after as ruledAfter, refusals, played, one}
 use Rattle.rules.specs.Turns.{moving, deleting, refusing, showing}
 use Rattle.rules.specs.Pieces.{starred, bench}
 use Rattle.rules.proofs.Calls.{fresh-sound}
@@ -43,10 +43,6 @@ calls-same : (cs : List Call) → callsOf (map does cs) ≡ cs
 calls-same [] = refl
 calls-same (c ∷ cs) = ap (λ (x : List Call). c ∷ x) (calls-same cs)
 
-map-same : (f g : Says → Says) → ((q : Says) → f q ≡ g q) → (qs : List Says) → map f qs ≡ map g qs
-map-same f g h [] = refl
-map-same f g h (q ∷ qs) = ap₂ (λ (x : Says) (xs : List Says). x ∷ xs) (h q) (map-same f g h qs)
-
 -- its start is its text put into a fresh sheet, and its calls can be handed in
 abbrev Ready : Piece → Type 0
 Ready (piece s cs ns says) = (call (insertText 0 (s .units)) freshSheet .sheet ≡ s) × FineCalls cs
@@ -61,14 +57,13 @@ module _ (m u w o : List ℕ) (words : length m ≡ 2048) (room : length u ≡ 1
       let fresh = fresh-lies m u words room in
       let k = startIn m u s in
       let ok : sound k ≡ true = after-sound (does (insertText 0 (s .units)) ∷ []) (tt, tt) (freshState m u) fresh in
-      let start : model k ≡ s =
-      after-model (does (insertText 0 (s .units)) ∷ []) (tt, tt) (freshState m u) fresh ∙ ap (λ (x : Sheet). call (insertText 0 (s .units)) x .sheet) (fresh-model m u words room) ∙ r .0 in
+      let made = after-model (does (insertText 0 (s .units)) ∷ []) (tt, tt) (freshState m u) fresh in
+      let start : model k ≡ s = made ∙ ap (λ (x : Sheet). call (insertText 0 (s .units)) x .sheet) (fresh-model m u words room) ∙ r .0 in
       let nums : numbers (map does cs) k ≡ refusals cs s = numbers-ruled cs (r .1) k ok ∙ ap (refusals cs) start in
-      let end : model (afterCalls cs k) ≡ ruledAfter cs s =
-      after-model (map does cs) (subst⁻¹ FineCalls (calls-same cs) (r .1)) k ok ∙ ap₂ ruledAfter (calls-same cs) start in
       let fine : FineCalls (callsOf (map does cs)) = subst⁻¹ FineCalls (calls-same cs) (r .1) in
+      let end : model (afterCalls cs k) ≡ ruledAfter cs s = after-model (map does cs) fine k ok ∙ ap₂ ruledAfter (calls-same cs) start in
       ap₂ (λ (x : Sheet) (y : List ℕ). piece x cs y (map (answerBy (afterCalls cs k) w o) says)) start nums
-      ∙ ap (piece s cs (refusals cs s)) (map-same (answerBy (afterCalls cs k) w o) (answer (model (afterCalls cs k))) (asked (afterCalls cs k) (after-sound (map does cs) fine k ok) w o lw lo) says)
+      ∙ ap (piece s cs (refusals cs s)) (map-congr-left {f = answerBy (afterCalls cs k) w o} {g = answer (model (afterCalls cs k))} {l = says} (λ q i. asked (afterCalls cs k) (after-sound (map does cs) fine k ok) w o lw lo q))
       ∙ ap (λ (x : Sheet). piece s cs (refusals cs s) (map (answer x) says)) end
 
   all-same : (ps : List Piece) → AllReady ps → map (playedIn m u w o) ps ≡ map played ps
@@ -92,10 +87,27 @@ bold-fine = one-fine 0 1 (omega arith)
 plain-fine : FineSet Byte (one 0 0)
 plain-fine = one-fine 0 0 (omega arith)
 
-starred-ready : AllReady starred
+ready-both : (a b : List Piece) → AllReady a → AllReady b → AllReady (a ++ b)
+ready-both [] b f g = g
+ready-both (p ∷ a) b f g = (f .0, ready-both a b (f .1) g)
+
+-- B1, the start, B2, B3, B4
+first-ready : AllReady (take 6 starred)
 unfolding keys
-starred-ready =
-    ((refl, tt), ((refl, (tt, tt)), ((refl, (bold-fine, tt)), ((refl, (bold-fine, (tt, tt))), ((refl, (bold-fine, (tt, tt))), ((refl, (bold-fine, (empty-fine, tt))), ((refl, (bold-fine, (tt, tt))), ((refl, (bold-fine, (plain-fine, (tt, tt)))), ((refl, (bold-fine, tt)), ((refl, (bold-fine, (bold-fine, tt))), ((refl, (bold-fine, tt)), ((refl, (tt, tt)), ((refl, (tt, tt)), ((refl, (bold-fine, (tt, tt))), ((refl, (bold-fine, (tt, tt))), ((refl, (bold-fine, ((empty-fine, tt), tt))), ((refl, (tt, (bold-fine, tt))), ((refl, (tt, (tt, (tt, tt)))), tt))))))))))))))))))
+first-ready = ((refl, tt), ((refl, (tt, tt)), ((refl, (bold-fine, tt)), ((refl, (bold-fine, (tt, tt))), ((refl, (bold-fine, (tt, tt))), ((refl, (bold-fine, (empty-fine, tt))), tt))))))
+
+-- B5 to B9
+next-ready : AllReady (take 7 (drop 6 starred))
+unfolding keys
+next-ready = ((refl, (bold-fine, (tt, tt))), ((refl, (bold-fine, (plain-fine, (tt, tt)))), ((refl, (bold-fine, tt)), ((refl, (bold-fine, (bold-fine, tt))), ((refl, (bold-fine, tt)), ((refl, (tt, tt)), ((refl, (tt, tt)), tt)))))))
+
+-- B10, B11, B13, B14
+last-ready : AllReady (drop 13 starred)
+unfolding keys
+last-ready = ((refl, (bold-fine, (tt, tt))), ((refl, (bold-fine, (tt, tt))), ((refl, (bold-fine, ((empty-fine, tt), tt))), ((refl, (tt, (bold-fine, tt))), ((refl, (tt, (tt, (tt, tt)))), tt)))))
+
+starred-ready : AllReady starred
+starred-ready = ready-both (take 6 starred) (drop 6 starred) first-ready (ready-both (take 7 (drop 6 starred)) (drop 13 starred) next-ready last-ready)
 
 front : (f : Piece → Piece) (a b : List Piece) → map f (a ++ b) ≡ a ++ b → map f a ≡ a
 front f [] b e = refl

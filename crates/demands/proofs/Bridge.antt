@@ -7,18 +7,20 @@ use mathlib.Core.List.{List, [], _∷_, map}
 use lib.Dec.{eqb}
 use borrow.Author.Tests.{eqb-true, eqb-false}
 use Rattle.rules.specs.Reading.{Op}
-use Rattle.rules.specs.Calls.{Body, Call, applyDelta, call}
+use Rattle.rules.specs.Calls.{Body, Call, applyDelta, beginNow, call}
 use Rattle.rules.specs.Rulings.{FineCall}
 use Rattle.rules.specs.PieceParts.{after as ruledAfter, refusals}
 use Rattle.rules.proofs.Calls.{call-refused}
 use Rattle.rules.proofs.Transaction.{FineCalls}
 use Rattle.items.specs.declared.head.Head.{Head}
+use Rattle.items.specs.declared.calls.Answer.{Answer}
+use Rattle.items.specs.Calls.{answerOf}
 use Rattle.items.specs.Memory.{soundOf, Carried, keptAll, carry}
 use Rattle.items.proofs.Soundness.{sound-parts}
-use Rattle.items.proofs.Models.{model-sound}
-use Rattle.items.proofs.Carries.{carry-broken, carry-refused}
+use Rattle.items.proofs.Models.{model-sound, sound-units}
+use Rattle.items.proofs.Carries.{carry-broken, carry-refused, carry-done}
 use Rattle.sheet.proofs.Theorems.{refusal-is, leaves-sound, leaves-model}
-use Rattle.demands.specs.Steps.{State, sound, model, Step, does, turned, answered, left, after, numbers, callsOf, deltaStep}
+use Rattle.demands.specs.Steps.{State, sound, model, Step, does, turned, answered, left, after, numbers, begun, callsOf, deltaStep}
 
 -- ---- one step
 -- One call, refused or not.
@@ -39,6 +41,17 @@ turned-keeps n s = go (sound s)
     go : (b : Bool) → left (cond b (keptAll n (s .head) (s .words) (s .units)) (keptAll 9 (s .head) (s .words) (s .units))) ≡ s
     go true = refl
     go false = refl
+
+-- What `begin` promises of its answer and of the words, with the units that it does not touch, is `begun`.
+pub begin-is : (s : State) (r : Answer) (m : List ℕ) → r ≡ answerOf (carry beginNow (s .head) (s .words) (s .units)) → m ≡ carry beginNow (s .head) (s .words) (s .units) .words
+    → record { head = r .head; words = m; units = s .units } ≡ begun s
+begin-is s r m a w = ap₂ (λ (x : Answer) (y : List ℕ). record { head = x .head; words = y; units = s .units }) a w ∙ ap (λ (x : List ℕ). record { head = begun s .head; words = begun s .words; units = x }) (go (sound s) refl)
+  where
+    go : (b : Bool) → sound s ≡ b → s .units ≡ begun s .units
+    go true e =
+        sym (sound-units (s .head) (s .words) (s .units) (sound-parts (s .head) (s .words) (s .units) e))
+        ∙ sym (ap (λ (x : Carried). x .units) (carry-done (call beginNow) (s .head) (s .words) (s .units) e refl))
+    go false e = sym (ap (λ (x : Carried). x .units) (carry-broken (call beginNow) (s .head) (s .words) (s .units) e))
 
 -- An unsound sheet is refused with 9, and all is kept.
 pub broken-step : (t : Step) (s : State) → sound s ≡ false → answered t s ≡ keptAll 9 (s .head) (s .words) (s .units)

@@ -4,9 +4,9 @@ use native.Mathlib.Omega.{arith}
 use mathlib.Core.Path.{_≡_, refl, sym, ap, subst, _∙_}
 use mathlib.Core.Bool.{Bool, true, false, cond}
 use mathlib.Core.List.{List, [], _∷_, map}
-use lib.ListN.{length, getD, take, drop}
+use lib.ListN.{length, getD, drop}
 use Rattle.rules.specs.Reading.{live, before, cells, seenGlyphs, read}
-use Rattle.rules.specs.Event.{event}
+use Rattle.rules.specs.Event.{event, toldUnits}
 use Rattle.rules.specs.Scripts.{Tells}
 use Rattle.rules.specs.Calls.{Sheet, Call, beginNow, call}
 use Rattle.rules.specs.Rulings.{SoundSheet}
@@ -60,10 +60,12 @@ module _ (k : State) (ok : sound k ≡ true) (w o : List ℕ) where
   pub wrote-room : 16384 ≤ length w → 16384 ≤ length o → wrote k w o .answer .refusal ≡ 0
   wrote-room a b = ap (λ (g : Given). g .answer .refusal) (event-room (k .head) (k .words) (k .units) (length w) (length o) ok a b)
 
+  wrote-counts : wrote k w o .answer .refusal ≡ 0 → (wrote k w o .answer .ops ≡ length (eventOf k)) × (wrote k w o .answer .units ≡ toldUnits (eventOf k))
+  wrote-counts = wrote-cases (λ n x. n ≡ 0 → (x .answer .ops ≡ length (eventOf k)) × (x .answer .units ≡ toldUnits (eventOf k))) (λ e. (refl, refl)) (λ e. absurd (omega arith))
+
   pub wrote-back : wrote k w o .answer .refusal ≡ 0 → readEvent k w o ≡ map (spelledOp (k .units)) (eventOf k)
   wrote-back =
-      let s = sound-parts (k .head) (k .words) (k .units) ok in
-      let f = event-fair (length (take (k .head .units) (k .units))) before live (model k .items) (model-sound (k .head) (k .words) (k .units) s .list .fit) in
+      let f = event-fair (k .head .units) before live (model k .items) (walkable (k .head) (k .words) (k .units) ok .fit) in
       wrote-cases (λ n x. n ≡ 0 → readBack 0 (x .answer .ops) (x .words) (x .units) ≡ map (spelledOp (k .units)) (eventOf k))
       (λ e. event-back (k .units) (drop (length (encoded (eventOf k))) w) (drop (length (texts (k .units) (eventOf k))) o) (eventOf k) f)
       (λ e. absurd (omega arith))
@@ -111,6 +113,7 @@ module _ (s : State) (ok : sound s ≡ true) (ts : List Step) (d : Edits (callsO
     number = wrote-number end end-sound w o;
     kept = wrote-kept end end-sound w o;
     room = wrote-room end end-sound w o;
+    counts = wrote-counts end end-sound w o;
     back = wrote-back end end-sound w o;
     replays = λ z j l.
         ap (λ (x : Ops). read j x (page j s)) (wrote-back end end-sound w o z)

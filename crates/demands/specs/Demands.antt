@@ -6,7 +6,7 @@ use mathlib.Core.List.{List, map}
 use mathlib.Core.Logic.{_↔_}
 use lib.ListN.{length}
 use Rattle.rules.specs.Reading.{live, before, cells, seenGlyphs, visible, read}
-use Rattle.rules.specs.Event.{event}
+use Rattle.rules.specs.Event.{event, toldUnits}
 use Rattle.rules.specs.Scripts.{Tells}
 use Rattle.rules.specs.Calls.{Call, AllPaired}
 use Rattle.rules.specs.Rulings.{ruling, ruled, unwhole, inPair, tooFar, crowded, Exactly, FineCall}
@@ -35,6 +35,8 @@ pub record Replays (s k : State) (w o : List ℕ) : Type 0 where
   pub kept : wrote k w o .answer .refusal ≡ 8 → wrote k w o ≡ record { answer = refusal 8; words = w; units = o }
   -- With room for 2,048 operations, eight numbers to each, and for 16,384 units, it is never refused.
   pub room : 16384 ≤ length w → 16384 ≤ length o → wrote k w o .answer .refusal ≡ 0
+  -- It answers how many operations and units it wrote: all of the event's.
+  pub counts : wrote k w o .answer .refusal ≡ 0 → (wrote k w o .answer .ops ≡ length (eventOf k)) × (wrote k w o .answer .units ≡ toldUnits (eventOf k))
   -- What it wrote, read back, is the event, with the very units ..
   pub back : wrote k w o .answer .refusal ≡ 0 → readEvent k w o ≡ map (spelledOp (k .units)) (eventOf k)
   -- .. and that, read over what was seen at `begin`, gives what is seen now, for any key.
