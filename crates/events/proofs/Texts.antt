@@ -99,7 +99,7 @@ texts-given u back l =
 
 -- ---- counts
 
-length-for : (u : List ℕ) (gs : List Glyph) → length (unitsFor u gs) ≡ inUnits gs
+pub length-for : (u : List ℕ) (gs : List Glyph) → length (unitsFor u gs) ≡ inUnits gs
 length-for u [] = refl
 length-for u (unit p ∷ gs) = ap suc (length-for u gs)
 length-for u (thing e ∷ gs) = length-for u gs

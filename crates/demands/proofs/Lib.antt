@@ -1,0 +1,10 @@
+pub mod Bridge
+pub mod Fair
+pub mod Back
+pub mod Pages
+pub mod Transaction
+pub mod Requests
+pub mod Settled
+pub mod Listing
+pub mod Said
+pub mod Bench
