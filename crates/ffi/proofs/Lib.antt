@@ -1,0 +1,5 @@
+pub mod Lefts
+pub mod Saids
+pub mod Fronts
+pub mod Writings
+pub mod Plans
