@@ -93,7 +93,7 @@ pub fn run_line(
     match call {
         Call::Nothing => s,
         Call::Fresh => fresh(s, items, units),
-        Call::Wrong | Call::Delta(_) => {
+        Call::Wrong | Call::Delta => {
             say_no_call(number);
             s
         }

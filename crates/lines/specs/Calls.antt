@@ -124,7 +124,7 @@ abbrev pub askedBy : Kind → List ℕ → ℕ → ℕ → List ℕ → Asked
 askedBy Plain s from c units = plainAsked s from c
 askedBy Text s from c units = textAsked s from c units
 askedBy Ranged s from c units = rangedAsked s from c
-askedBy Ops s from c units = bareAsked (Delta from)
+askedBy Ops s from c units = bareAsked Delta
 askedBy NoKind s from c units = bareAsked Wrong
 
 abbrev pub unitsBy : Kind → List ℕ → ℕ → ℕ → List ℕ → List ℕ

@@ -22,8 +22,8 @@ pub enum Call {
     EmbedWith { index: u32, n: u32 },
     Format { index: u32, len: u32 },
     Remove { index: u32, len: u32 },
-    // The operations stand behind this place of the line.
-    Delta(usize),
+    // Its operations are read by `read_delta`.
+    Delta,
     Begin,
     Query,
     Fresh,
@@ -90,7 +90,7 @@ pub struct Numbered {
 }
 
 // The next word as a decimal number.
-pub fn number_at(s: &[u8], from: usize) -> Numbered
+pub(crate) fn number_at(s: &[u8], from: usize) -> Numbered
     requires { ⌜ from ≤ length (now s) ⌝ }
     ensures { λ r. ⌜ NumberIs (now (s .entry)) from r ⌝ }
 {
@@ -249,7 +249,7 @@ pub fn read_call(s: &[u8], units: &mut [u16]) -> Asked
         Kind::Plain => plain_call(s, end, name),
         Kind::Text => text_call(s, end, name, units),
         Kind::Ranged => ranged_call(s, end, name),
-        Kind::Delta => Asked::bare(Call::Delta(end)),
+        Kind::Delta => Asked::bare(Call::Delta),
         Kind::Wrong => Asked::bare(Call::Wrong),
     }
 }
