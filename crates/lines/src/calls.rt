@@ -26,6 +26,7 @@ pub enum Call {
     Delta,
     Begin,
     Query,
+    Show,
     Fresh,
     // No call.
     Wrong,
@@ -58,6 +59,9 @@ fn kind_of(name: u8) -> Kind
         return Kind::Plain;
     }
     if name == b'q' {
+        return Kind::Plain;
+    }
+    if name == b'p' {
         return Kind::Plain;
     }
     if name == b'i' {
@@ -138,6 +142,9 @@ fn plain(name: u8) -> Call
     }
     if name == b'q' {
         return Call::Query;
+    }
+    if name == b'p' {
+        return Call::Show;
     }
     Call::Fresh
 }
