@@ -1,4 +1,5 @@
 // The length, runs, items and event of a sheet.
+use crate::letters::say_letters;
 use crate::say::say;
 use crate::say::say_attrs;
 use crate::say::say_number;
@@ -33,6 +34,50 @@ fn say_text(h: Head, items: &[u64], units: &[u16], run: Run) {
     ranges::text_of_range(h, items, units, run.start, run.len, &mut text);
     say(b"t");
     say_part(&text, 0, run.len);
+}
+
+fn show_text(h: Head, items: &[u64], units: &[u16], run: Run) {
+    let mut text = [0u16; 16384];
+    ranges::text_of_range(h, items, units, run.start, run.len, &mut text);
+    let n = run.len as usize;
+    if n <= text.len() {
+        say_letters(&text[..n]);
+    }
+}
+
+// A run with attributes stands in brackets, its attributes behind it.
+fn show_run(h: Head, items: &[u64], units: &[u16], run: Run) {
+    let set = run.attrs;
+    if set.mask != 0 {
+        say(b"[");
+    }
+    if run.embed {
+        say(b"<");
+        say_number(run.number as u64);
+        say(b">");
+    } else {
+        show_text(h, items, units, run);
+    }
+    say_attrs(set);
+    if set.mask != 0 {
+        say(b"]");
+    }
+}
+
+// What `p` asks for: the visible text in one line, as a person reads it.
+pub fn show(h: Head, items: &[u64], units: &[u16]) {
+    let count = runs::calls::count_runs(h, items, units, true).count;
+    let mut n: u32 = 0;
+    while n < 2048 {
+        if n as usize >= count {
+            break;
+        }
+        let found = runs::calls::run_at(h, items, units, true, n);
+        let run = found.run;
+        show_run(h, items, units, run);
+        n += 1;
+    }
+    say(b"\n");
 }
 
 fn say_run(h: Head, items: &[u64], units: &[u16], run: Run) {

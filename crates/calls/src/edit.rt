@@ -1,9 +1,13 @@
 // One line's call.
 use crate::answer::last;
 use crate::answer::query;
+use crate::answer::show;
+use crate::delta::delta_line;
 use crate::say::say;
 use crate::say::say_no_call;
 use crate::say::say_refused;
+use crate::state::State;
+use crate::state::told;
 use attrs::Attrs;
 use items::calls::Answer;
 use items::calls::begin;
@@ -17,12 +21,6 @@ use sheet::insert::insert_embed_with_attributes;
 use sheet::insert::insert_with_attributes;
 use sheet::range::format;
 use sheet::range::remove_range;
-
-// The sheet's head, and whether a call was made on the sheet.
-pub struct State {
-    pub head: Head,
-    pub touched: bool,
-}
 
 fn carried(
     h: Head,
@@ -57,11 +55,7 @@ fn edited(h: Head, asked: Asked, chunk: &[u16], items: &mut [u64], units: &mut [
     }
     let call = asked.call;
     let set = asked.attrs;
-    let a = carried(h, call, set, chunk, items, units);
-    if a.refusal != 0 {
-        say_refused(a.refusal);
-    }
-    a.head
+    told(carried(h, call, set, chunk, items, units))
 }
 
 // A fresh sheet, where there was a call on the old one.
@@ -77,7 +71,6 @@ fn fresh(s: State, items: &[u64], units: &[u16]) -> State {
     }
 }
 
-// A delta is no call yet.
 pub fn run_line(
     s: State,
     line: &[u8],
@@ -93,12 +86,20 @@ pub fn run_line(
     match call {
         Call::Nothing => s,
         Call::Fresh => fresh(s, items, units),
-        Call::Wrong | Call::Delta(_) => {
+        Call::Wrong => {
             say_no_call(number);
             s
         }
+        Call::Delta => delta_line(s, line, number, items, units),
         Call::Query => {
             query(head, items, units);
+            State {
+                head,
+                touched: true,
+            }
+        }
+        Call::Show => {
+            show(head, items, units);
             State {
                 head,
                 touched: true,

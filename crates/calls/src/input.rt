@@ -1,7 +1,7 @@
 // Lines from standard input, which comes in parts.
-use crate::edit::State;
 use crate::edit::run_line;
 use crate::say::say_no_call;
+use crate::state::State;
 use items::head::Head;
 use libc::STDIN_FILENO;
 use lines::input::Line;

@@ -1,6 +1,9 @@
 // Reads one call a line from standard input, and writes `refused N` for each refused one; at the end the length and the joined runs.
 mod say; // what is written
+mod letters; // text as a person reads it
 mod answer; // the length, runs, items and the event of a sheet
+mod state; // what is kept from line to line
+mod delta; // a line with a delta
 mod edit; // one line's call
 mod input; // lines from standard input
 

@@ -45,6 +45,10 @@ read-is {s} {from} {w} g h e =
 
 -- ---- what a word adds
 
+pub or-some : (n other : ℕ) → (n ≡ 0 → ⊥) → n ≡ orElse n other
+or-some zero other h = absurd (h refl)
+or-some (suc n) other h = refl
+
 module _ (f : Fields) (at : ℕ) where
   pub unit-full : (room : ℕ) → room ≤ f .count → stoppedAt f at 3 ≡ unitField f at room
   unit-full room h = simp (le-ltb (f .count) room h)
@@ -55,10 +59,6 @@ module _ (f : Fields) (at : ℕ) where
   module _ (marks k v : ℕ) where
     pub pair-none : marks ≡ 0 → stoppedAt f at 3 ≡ pairField f at marks k v
     pair-none z = simp (eq-eqb marks 0 z)
-
-    or-some : (n other : ℕ) → (n ≡ 0 → ⊥) → n ≡ orElse n other
-    or-some zero other h = absurd (h refl)
-    or-some (suc n) other h = refl
 
     module _ (n : marks ≡ 0 → ⊥) (t : Took) (e : t ≡ withAt (f .attrs) k v) where
       pub pair-refused : (t .refusal ≡ 0 → ⊥) → record { at = at; count = f .count; attrs = t .attrs; refusal = t .refusal; end = 0 } ≡ pairField f at marks k v

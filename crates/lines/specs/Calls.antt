@@ -17,16 +17,16 @@ use Rattle.lines.specs.declared.fields.Field.{Field}
 use Rattle.lines.specs.declared.fields.Field.the-variants.{Line, Op, Word}
 use Rattle.lines.specs.declared.fields.Fields.{Fields}
 use Rattle.lines.specs.declared.calls.Call.{Call}
-use Rattle.lines.specs.declared.calls.Call.the-variants.{Nothing, Insert, InsertWith, Embed, EmbedWith, Format, Remove, Delta, Begin, Query, Fresh, Wrong}
+use Rattle.lines.specs.declared.calls.Call.the-variants.{Nothing, Insert, InsertWith, Embed, EmbedWith, Format, Remove, Delta, Begin, Query, Show, Fresh, Wrong}
 use Rattle.lines.specs.declared.calls.Kind.{Kind}
 use Rattle.lines.specs.declared.calls.Kind.the-variants.{Plain, Text, Ranged, Delta as Ops, Wrong as NoKind}
 use Rattle.lines.specs.declared.calls.Asked.{Asked}
 use Rattle.lines.specs.declared.calls.Numbered.{Numbered}
 
--- b, n and q stand alone; i and w have an index and text; e, f, r and x two numbers; d operations.
+-- b, n, p and q stand alone; i and w have an index and text; e, f, r and x two numbers; d operations.
 unfoldable pub kindOf : ℕ → Kind
 kindOf c =
-    cond (eqb c 98 || (eqb c 110 || eqb c 113)) Plain
+    cond (eqb c 98 || (eqb c 110 || (eqb c 113 || eqb c 112))) Plain
     (cond (eqb c 105 || eqb c 119) Text
     (cond (eqb c 101 || (eqb c 102 || (eqb c 114 || eqb c 120))) Ranged
     (cond (eqb c 100) Ops NoKind)))
@@ -54,7 +54,7 @@ askedOf call f =
 -- ---- a letter alone
 
 abbrev pub plainOf : ℕ → Call
-plainOf c = cond (eqb c 98) Begin (cond (eqb c 113) Query Fresh)
+plainOf c = cond (eqb c 98) Begin (cond (eqb c 113) Query (cond (eqb c 112) Show Fresh))
 
 abbrev pub plainWith : Field → ℕ → Asked
 plainWith Line c = bareAsked (plainOf c)
@@ -124,7 +124,7 @@ abbrev pub askedBy : Kind → List ℕ → ℕ → ℕ → List ℕ → Asked
 askedBy Plain s from c units = plainAsked s from c
 askedBy Text s from c units = textAsked s from c units
 askedBy Ranged s from c units = rangedAsked s from c
-askedBy Ops s from c units = bareAsked (Delta from)
+askedBy Ops s from c units = bareAsked Delta
 askedBy NoKind s from c units = bareAsked Wrong
 
 abbrev pub unitsBy : Kind → List ℕ → ℕ → ℕ → List ℕ → List ℕ

@@ -2,5 +2,6 @@ pub mod Words
 pub mod Numbers
 pub mod Fields
 pub mod Calls
+pub mod Deltas
 pub mod Show
 pub mod Input

@@ -22,10 +22,11 @@ pub enum Call {
     EmbedWith { index: u32, n: u32 },
     Format { index: u32, len: u32 },
     Remove { index: u32, len: u32 },
-    // The operations stand behind this place of the line.
-    Delta(usize),
+    // Its operations are read by `read_delta`.
+    Delta,
     Begin,
     Query,
+    Show,
     Fresh,
     // No call.
     Wrong,
@@ -60,6 +61,9 @@ fn kind_of(name: u8) -> Kind
     if name == b'q' {
         return Kind::Plain;
     }
+    if name == b'p' {
+        return Kind::Plain;
+    }
     if name == b'i' {
         return Kind::Text;
     }
@@ -90,7 +94,7 @@ pub struct Numbered {
 }
 
 // The next word as a decimal number.
-pub fn number_at(s: &[u8], from: usize) -> Numbered
+pub(crate) fn number_at(s: &[u8], from: usize) -> Numbered
     requires { ⌜ from ≤ length (now s) ⌝ }
     ensures { λ r. ⌜ NumberIs (now (s .entry)) from r ⌝ }
 {
@@ -138,6 +142,9 @@ fn plain(name: u8) -> Call
     }
     if name == b'q' {
         return Call::Query;
+    }
+    if name == b'p' {
+        return Call::Show;
     }
     Call::Fresh
 }
@@ -249,7 +256,7 @@ pub fn read_call(s: &[u8], units: &mut [u16]) -> Asked
         Kind::Plain => plain_call(s, end, name),
         Kind::Text => text_call(s, end, name, units),
         Kind::Ranged => ranged_call(s, end, name),
-        Kind::Delta => Asked::bare(Call::Delta(end)),
+        Kind::Delta => Asked::bare(Call::Delta),
         Kind::Wrong => Asked::bare(Call::Wrong),
     }
 }

@@ -6,7 +6,7 @@ ghost use Prim.Native.Nat.{_+_, _<_, _≤_};
 ghost use lib.ListN.{length};
 ghost use Rattle.lines.specs.Show.{Wrote, decimalText, hexDigit, unitText, pairText, attrsText};
 
-pub fn put(out: &mut [u8], n: usize, text: &[u8]) -> usize
+fn put(out: &mut [u8], n: usize, text: &[u8]) -> usize
     requires { ⌜ n + length (now text) ≤ length (now out) ⌝ }
     ensures { λ r. ⌜ Wrote (now (out .entry)) (now (out .exit)) n (now (text .entry)) r ⌝ }
 {
@@ -18,7 +18,7 @@ pub fn put(out: &mut [u8], n: usize, text: &[u8]) -> usize
     n + i
 }
 
-pub fn put_decimal(out: &mut [u8], n: usize, x: u64) -> usize
+fn put_decimal(out: &mut [u8], n: usize, x: u64) -> usize
     requires { ⌜ n + 20 ≤ length (now out) ⌝ }
     ensures { λ r. ⌜ Wrote (now (out .entry)) (now (out .exit)) n (decimalText x) r ⌝ }
 {
@@ -50,7 +50,7 @@ pub fn put_unit(out: &mut [u8], n: usize, u: u16) -> usize
 }
 
 // A space and an attribute.
-pub fn put_pair(out: &mut [u8], n: usize, key: u32, value: u32) -> usize
+fn put_pair(out: &mut [u8], n: usize, key: u32, value: u32) -> usize
     requires { ⌜ n + 42 ≤ length (now out) ⌝ }
     ensures { λ r. ⌜ Wrote (now (out .entry)) (now (out .exit)) n (pairText key value) r ⌝ }
 {

@@ -17,14 +17,29 @@ enum-told-2 c = search needs
 fresh-requires : tie.Need-fresh-requires
 fresh-requires c κs = search needs
 
-say-no-call-requires : tie.Need-say-no-call-requires
-say-no-call-requires c κs = search needs
-
 enum-told-3 : tie.Need-enum-told-3
 enum-told-3 c = search needs
 
+say-no-call-requires : tie.Need-say-no-call-requires
+say-no-call-requires c κs = search needs
+
+enum-told-4 : tie.Need-enum-told-4
+enum-told-4 c = search needs
+
+delta-line-requires : tie.Need-delta-line-requires
+delta-line-requires c κs = search needs
+
+enum-told-5 : tie.Need-enum-told-5
+enum-told-5 c = search needs
+
 query-requires : tie.Need-query-requires
 query-requires c κs = search needs
+
+enum-told-6 : tie.Need-enum-told-6
+enum-told-6 c = search needs
+
+show-requires : tie.Need-show-requires
+show-requires c κs = search needs
 
 slice-reshare-prefix-edited : tie.Need-slice-reshare-prefix-edited
 slice-reshare-prefix-edited c = search needs
@@ -83,6 +98,30 @@ same-length-11 c = search needs
 returns-5 : tie.Need-returns-5
 returns-5 c = search needs
 
+same-length-12 : tie.Need-same-length-12
+same-length-12 c = search needs
+
+same-length-13 : tie.Need-same-length-13
+same-length-13 c = search needs
+
+same-length-14 : tie.Need-same-length-14
+same-length-14 c = search needs
+
+returns-6 : tie.Need-returns-6
+returns-6 c = search needs
+
+same-length-15 : tie.Need-same-length-15
+same-length-15 c = search needs
+
+same-length-16 : tie.Need-same-length-16
+same-length-16 c = search needs
+
+same-length-17 : tie.Need-same-length-17
+same-length-17 c = search needs
+
+returns-7 : tie.Need-returns-7
+returns-7 c = search needs
+
 pub run-line-spec : {M : Type 1} → statement M
 run-line-spec =
     tie.close
@@ -91,9 +130,14 @@ run-line-spec =
     enum-told
     enum-told-2
     fresh-requires
-    say-no-call-requires
     enum-told-3
+    say-no-call-requires
+    enum-told-4
+    delta-line-requires
+    enum-told-5
     query-requires
+    enum-told-6
+    show-requires
     slice-reshare-prefix-edited
     slice-aggregate-edited
     edited-requires
@@ -112,4 +156,12 @@ run-line-spec =
     same-length-9
     same-length-10
     same-length-11
-    returns-5)
+    returns-5
+    same-length-12
+    same-length-13
+    same-length-14
+    returns-6
+    same-length-15
+    same-length-16
+    same-length-17
+    returns-7)
