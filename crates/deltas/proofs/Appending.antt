@@ -12,7 +12,7 @@ use Rattle.rules.specs.Calls.{newUnits}
 use Rattle.ops.specs.declared.delta.Op.{Op}
 use Rattle.ops.specs.declared.delta.DeltaOp.{DeltaOp}
 use Rattle.ops.specs.Ops.{opOf}
-use Rattle.deltas.specs.Turns.{brings, bringing}
+use Rattle.carrying.specs.Turns.{brings, bringing}
 use Rattle.deltas.specs.Checks.{pastEnd, anyPast}
 use Rattle.deltas.specs.Texts.{unitsOf, appended}
 use Rattle.deltas.proofs.Refusals.{left-false}

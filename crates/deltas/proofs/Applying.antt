@@ -14,7 +14,7 @@ use Rattle.items.proofs.Models.{used-length}
 use Rattle.changes.specs.Frame.{Left, granted}
 use Rattle.ops.specs.declared.delta.Delta.{Delta}
 use Rattle.ops.specs.Ops.{opsOf}
-use Rattle.deltas.specs.Turns.{laid, bringing, given}
+use Rattle.carrying.specs.Turns.{laid, bringing, given}
 use Rattle.deltas.specs.Checks.{anyPast, manyOf}
 use Rattle.deltas.specs.Call.{shortScratch, carryDelta}
 use Rattle.deltas.proofs.Laid.{laid-is, new-length}

@@ -18,7 +18,7 @@ use Rattle.ops.specs.declared.delta.Op.the-variants.{Insert, Delete, Retain}
 use Rattle.ops.specs.declared.delta.DeltaOp.{DeltaOp}
 use Rattle.ops.specs.declared.delta.Delta.{Delta}
 use Rattle.ops.specs.Ops.{opFor, opOf, opsOf}
-use Rattle.deltas.specs.Turns.{brings, laidFor, laid, bringing, given}
+use Rattle.carrying.specs.Turns.{brings, laidFor, laid, bringing, given}
 use Rattle.deltas.specs.Checks.{pastEnd, anyPast}
 use Rattle.deltas.specs.Texts.{unitsOf}
 use Rattle.deltas.proofs.Refusals.{left-false}

@@ -1,5 +1,3 @@
-pub mod Carrying
-pub mod Frames
 pub mod Reading
 pub mod Refusals
 pub mod Laid

@@ -10,7 +10,7 @@ use lib.Dec.{ltb}
 use borrow.Author.Tests.{ltb-false, lt-ltb, le-ltb}
 use Rattle.ops.specs.declared.delta.DeltaOp.{DeltaOp}
 use Rattle.ops.specs.declared.delta.Delta.{Delta}
-use Rattle.deltas.specs.Turns.{brings, bringing, given}
+use Rattle.carrying.specs.Turns.{brings, bringing, given}
 use Rattle.deltas.specs.Checks.{pastEnd, anyPast, manyOf}
 use Rattle.deltas.proofs.Refusals.{left-false}
 

@@ -23,7 +23,7 @@ use Rattle.ops.specs.declared.delta.Op.the-variants.{Insert, Delete, Retain}
 use Rattle.ops.specs.declared.delta.DeltaOp.{DeltaOp}
 use Rattle.ops.specs.declared.delta.Delta.{Delta}
 use Rattle.ops.specs.Ops.{opFor, opOf, opsOf}
-use Rattle.deltas.specs.Turns.{given}
+use Rattle.carrying.specs.Turns.{given}
 use Rattle.deltas.specs.Checks.{manyOf}
 use Rattle.deltas.specs.Call.{shortScratch, carryDelta}
 use Rattle.deltas.proofs.Applying.{carried-unsound, carried-many, carried-short, carried-ruled}

@@ -9,7 +9,7 @@ use Rattle.ops.specs.declared.delta.Op.{Op}
 use Rattle.ops.specs.declared.delta.Op.the-variants.{Insert, Delete, Retain}
 use Rattle.ops.specs.declared.delta.DeltaOp.{DeltaOp}
 use Rattle.ops.specs.declared.delta.Delta.{Delta}
-use Rattle.deltas.specs.Turns.{given}
+use Rattle.carrying.specs.Turns.{given}
 
 -- A text part, be it empty, that starts or ends past n lent units.
 abbrev pub pastPart : ℕ → Inserted → Bool

@@ -1,4 +1,3 @@
-pub mod Turns
 pub mod Checks
 pub mod Faults
 pub mod Texts

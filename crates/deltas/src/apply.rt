@@ -13,7 +13,7 @@ use crate::append::append_all;
 use crate::checks::many;
 use crate::checks::total;
 use crate::faults::fault;
-use crate::frame::carry_all;
+use carrying::frame::carry_all;
 use items::calls::Answer;
 use items::calls::len;
 use items::head::Head;

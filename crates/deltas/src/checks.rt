@@ -1,9 +1,9 @@
 // What only reads a delta: whether it can be read at all, and how many units it brings.
 ghost use mathlib.Core.Path.{_≡_};
 ghost use Prim.Native.Nat.{_≤_};
-ghost use Rattle.deltas.specs.Turns.{given, bringing};
+ghost use Rattle.carrying.specs.Turns.{given, bringing};
 ghost use Rattle.deltas.specs.Checks.{pastEnd, manyOf};
-use crate::turns::brought;
+use carrying::turns::brought;
 use ops::delta::Delta;
 use ops::delta::Inserted;
 use ops::delta::Op;

@@ -8,7 +8,7 @@ ghost use Rattle.rules.specs.Calls.{visibleUnits, tooLong, check};
 ghost use Rattle.items.specs.Memory.{listOf};
 ghost use Rattle.cuts.specs.Cuts.{Readable};
 ghost use Rattle.ops.specs.Ops.{opsOf};
-ghost use Rattle.deltas.specs.Turns.{given};
+ghost use Rattle.carrying.specs.Turns.{given};
 ghost use Rattle.deltas.specs.Checks.{pastPart, pastEnd, anyPast};
 ghost use Rattle.deltas.specs.Faults.{partFault, faultFor, placeAfter};
 use cuts::cuts_pair;

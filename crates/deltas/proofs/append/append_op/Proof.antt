@@ -7,7 +7,7 @@ use denote.Ref.{now}
 use Rattle.ops.specs.declared.delta.Inserted.{Inserted}
 use Rattle.ops.specs.declared.delta.Op.{Op}
 use Rattle.ops.specs.declared.delta.Op.the-variants.{Insert}
-use Rattle.deltas.specs.Turns.{brings}
+use Rattle.carrying.specs.Turns.{brings}
 use Rattle.deltas.proofs.Refusals.{part-in, op-in}
 use Rattle.deltas.proofs.Appending.{nothing-put}
 use borrow.Author.Needs.{needs}

@@ -10,7 +10,7 @@ use Rattle.items.proofs.Soundness.{sound-parts}
 use Rattle.changes.proofs.Sounds.{sound-loads}
 use Rattle.changes.proofs.Calls.{carry-faulty, carry-crowded, carry-granted}
 use Rattle.ops.specs.Ops.{opsOf}
-use Rattle.deltas.specs.Turns.{bringing, given}
+use Rattle.carrying.specs.Turns.{bringing, given}
 use Rattle.deltas.proofs.Reading.{many-none}
 use Rattle.deltas.proofs.Applying.{delta-long, delta-granted}
 use borrow.Author.Needs.{needs}

@@ -5,8 +5,8 @@ use mathlib.Core.Path.{_≡_, refl, sym, _∙_}
 use mathlib.Core.Bool.{true, false}
 use mathlib.Core.List.{_∷_}
 use lib.ListN.{length, getD, drop}
-use Rattle.deltas.specs.Turns.{given}
-use Rattle.deltas.proofs.Carrying.{length-mapped, unread, given-length, given-at}
+use Rattle.carrying.specs.Turns.{given}
+use Rattle.carrying.proofs.Carrying.{length-mapped, unread, given-length, given-at}
 use Rattle.deltas.proofs.Reading.{NoneYet, past-here, past-later, past-none, many-count, many-parts}
 use borrow.Author.Needs.{needs}
 use Rattle.deltas.proofs.checks.many.Statement.{statement}

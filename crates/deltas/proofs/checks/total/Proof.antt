@@ -4,8 +4,8 @@ use native.Mathlib.Omega.{arith}
 use mathlib.Core.Path.{_≡_, ap, _∙_}
 use mathlib.Core.List.{_∷_}
 use lib.ListN.{length, getD, drop}
-use Rattle.deltas.specs.Turns.{bringing, given}
-use Rattle.deltas.proofs.Carrying.{length-mapped, unread, given-length, given-at}
+use Rattle.carrying.specs.Turns.{bringing, given}
+use Rattle.carrying.proofs.Carrying.{length-mapped, unread, given-length, given-at}
 use Rattle.deltas.proofs.Reading.{total-next, total-done}
 use borrow.Author.Needs.{needs}
 use Rattle.deltas.proofs.checks.total.Statement.{statement}

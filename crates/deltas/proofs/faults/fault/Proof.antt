@@ -7,9 +7,9 @@ use lib.ListN.{length, getD, drop}
 use Rattle.rules.specs.Calls.{visibleUnits}
 use Rattle.items.specs.Memory.{listOf}
 use Rattle.ops.specs.Ops.{opsOf}
-use Rattle.deltas.specs.Turns.{given}
+use Rattle.carrying.specs.Turns.{given}
 use Rattle.deltas.specs.Faults.{placeAfter}
-use Rattle.deltas.proofs.Carrying.{length-mapped, unread, given-length, given-at}
+use Rattle.carrying.proofs.Carrying.{length-mapped, unread, given-length, given-at}
 use Rattle.deltas.proofs.Refusals.{Faultless, faultless-start, faultless-next, faultless-end, next-part, refused-here}
 use borrow.Author.Needs.{needs}
 use Rattle.deltas.proofs.faults.fault.Statement.{statement}

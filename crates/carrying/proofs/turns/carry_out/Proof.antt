@@ -1,4 +1,4 @@
--- `deltas::turns::carry_out` meets its contract: what is left to do from the place reached gives what there was to do at first. Assumes nothing.
+-- `carrying::turns::carry_out` meets its contract: what is left to do from the place reached gives what there was to do at first. Assumes nothing.
 use Prim.Native.Nat.{ℕ, suc, _+_, _-_}
 use native.Mathlib.Omega.{arith}
 use mathlib.Core.Path.{_≡_, sym, ap, _∙_}
@@ -6,11 +6,11 @@ use mathlib.Core.List.{_∷_}
 use lib.ListN.{length, getD, drop}
 use Rattle.rules.specs.Delta.{carryOut}
 use Rattle.arena.specs.Places.{placed}
-use Rattle.deltas.specs.Turns.{laid, given}
-use Rattle.deltas.proofs.Carrying.{length-mapped, unread, Under, under-start, under-next, under-long, under-done, next-room, given-length, given-at}
+use Rattle.carrying.specs.Turns.{laid, given}
+use Rattle.carrying.proofs.Carrying.{length-mapped, unread, Under, under-start, under-next, under-long, under-done, next-room, given-length, given-at}
 use borrow.Author.Needs.{needs}
-use Rattle.deltas.proofs.turns.carry_out.Statement.{statement}
-use Rattle.deltas.proofs.turns.carry_out.Tie as tie
+use Rattle.carrying.proofs.turns.carry_out.Statement.{statement}
+use Rattle.carrying.proofs.turns.carry_out.Tie as tie
 
 abbrev Inv-loop : tie.InvT-loop
 Inv-loop work₀ used delta count at₀ next₀ i₀ work at next i =

@@ -1,10 +1,10 @@
--- `deltas::turns::insert_embed` meets its contract. Assumes nothing.
+-- `carrying::turns::insert_embed` meets its contract. Assumes nothing.
 use native.Mathlib.Omega.{arith}
 use Rattle.attrs.specs.Packed.{says}
-use Rattle.deltas.proofs.Carrying.{embed-put}
+use Rattle.carrying.proofs.Carrying.{embed-put}
 use borrow.Author.Needs.{needs}
-use Rattle.deltas.proofs.turns.insert_embed.Statement.{statement}
-use Rattle.deltas.proofs.turns.insert_embed.Tie as tie
+use Rattle.carrying.proofs.turns.insert_embed.Statement.{statement}
+use Rattle.carrying.proofs.turns.insert_embed.Tie as tie
 
 insert-requires : tie.Need-insert-requires
 insert-requires c κs = let start = c .before .before in (start .pre .0, start .pre .1, omega (arith, start .fits .number))

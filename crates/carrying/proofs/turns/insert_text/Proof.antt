@@ -1,9 +1,9 @@
--- `deltas::turns::insert_text` meets its contract. Assumes nothing.
+-- `carrying::turns::insert_text` meets its contract. Assumes nothing.
 use native.Mathlib.Omega.{arith}
-use Rattle.deltas.proofs.Carrying.{text-none, text-some}
+use Rattle.carrying.proofs.Carrying.{text-none, text-some}
 use borrow.Author.Needs.{needs}
-use Rattle.deltas.proofs.turns.insert_text.Statement.{statement}
-use Rattle.deltas.proofs.turns.insert_text.Tie as tie
+use Rattle.carrying.proofs.turns.insert_text.Statement.{statement}
+use Rattle.carrying.proofs.turns.insert_text.Tie as tie
 
 returns : tie.Need-returns
 returns c = text-none (c .before .before .pre .0) _ _ _ (c .if1 .taken)

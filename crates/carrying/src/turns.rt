@@ -4,7 +4,7 @@ ghost use Prim.Native.Nat.{_+_, _≤_};
 ghost use Rattle.attrs.specs.Packed.{says};
 ghost use Rattle.rules.specs.Delta.{newText, newEmbed, insertHere, carryOut};
 ghost use Rattle.arena.specs.Places.{SIZE, Standing, placed, Carried};
-ghost use Rattle.deltas.specs.Turns.{givenAt, heldBy, brings, ruleOf, laid, bringing, given, Tried};
+ghost use Rattle.carrying.specs.Turns.{givenAt, heldBy, brings, ruleOf, laid, bringing, given, Tried};
 use arena::At;
 use arena::Place;
 use attrs::Attrs;
@@ -57,7 +57,7 @@ fn step(h: Head, work: &mut [u64], p: Place, used: u32, op: Op, attrs: Attrs) ->
     }
 }
 
-pub(crate) fn brought(op: Op) -> u32
+pub fn brought(op: Op) -> u32
     ensures { λ r. ⌜ r ≡ brings op ⌝ }
 {
     match op {
@@ -71,7 +71,7 @@ pub(crate) fn brought(op: Op) -> u32
 }
 
 // It stops where the list gets too long, since no operation makes it shorter.
-pub(crate) fn carry_out(from: At, work: &mut [u64], used: u32, delta: Delta) -> Head
+pub fn carry_out(from: At, work: &mut [u64], used: u32, delta: Delta) -> Head
     requires { ⌜ Standing (from .head) (now work) (from .place) × (from .head .items ≤ 2048) × (delta .count ≤ 256) × (used + bringing (given delta) ≤ 16384) ⌝ }
     ensures { λ r. ⌜ Tried (carryOut (laid used (given delta)) (placed (from .head) (now (work .entry)) (from .place))) r (now (work .exit)) ⌝ }
 {

@@ -1,10 +1,10 @@
--- `deltas::turns::step` meets its contract: each operation by its edit. Assumes nothing.
+-- `carrying::turns::step` meets its contract: each operation by its edit. Assumes nothing.
 use native.Mathlib.Omega.{arith}
-use Rattle.deltas.specs.Turns.{ruleOf}
-use Rattle.deltas.proofs.Carrying.{by-op, op-room}
+use Rattle.carrying.specs.Turns.{ruleOf}
+use Rattle.carrying.proofs.Carrying.{by-op, op-room}
 use borrow.Author.Needs.{needs}
-use Rattle.deltas.proofs.turns.step.Statement.{statement}
-use Rattle.deltas.proofs.turns.step.Tie as tie
+use Rattle.carrying.proofs.turns.step.Statement.{statement}
+use Rattle.carrying.proofs.turns.step.Tie as tie
 
 enum-known-op : tie.Need-enum-known-op
 enum-known-op c = search needs

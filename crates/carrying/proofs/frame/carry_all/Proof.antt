@@ -1,11 +1,11 @@
--- `deltas::frame::carry_all` meets its contract. Assumes nothing.
+-- `carrying::frame::carry_all` meets its contract. Assumes nothing.
 use mathlib.Core.Path.{refl}
 use Rattle.changes.proofs.Works.{load-is, granted-is}
-use Rattle.deltas.specs.Turns.{laid, given}
-use Rattle.deltas.proofs.Frames.{stands-first, tried-all, tried-not}
+use Rattle.carrying.specs.Turns.{laid, given}
+use Rattle.carrying.proofs.Frames.{stands-first, tried-all, tried-not}
 use borrow.Author.Needs.{needs}
-use Rattle.deltas.proofs.frame.carry_all.Statement.{statement}
-use Rattle.deltas.proofs.frame.carry_all.Tie as tie
+use Rattle.carrying.proofs.frame.carry_all.Statement.{statement}
+use Rattle.carrying.proofs.frame.carry_all.Tie as tie
 
 slice-aggregate-copy : tie.Need-slice-aggregate-copy
 slice-aggregate-copy c = search needs

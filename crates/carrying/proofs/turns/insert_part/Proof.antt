@@ -1,8 +1,8 @@
--- `deltas::turns::insert_part` meets its contract: a text or an embed. Assumes nothing.
-use Rattle.deltas.proofs.Carrying.{by-part, part-room}
+-- `carrying::turns::insert_part` meets its contract: a text or an embed. Assumes nothing.
+use Rattle.carrying.proofs.Carrying.{by-part, part-room}
 use borrow.Author.Needs.{needs}
-use Rattle.deltas.proofs.turns.insert_part.Statement.{statement}
-use Rattle.deltas.proofs.turns.insert_part.Tie as tie
+use Rattle.carrying.proofs.turns.insert_part.Statement.{statement}
+use Rattle.carrying.proofs.turns.insert_part.Tie as tie
 
 enum-known-part : tie.Need-enum-known-part
 enum-known-part c = search needs

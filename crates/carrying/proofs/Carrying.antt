@@ -25,7 +25,7 @@ use Rattle.ops.specs.declared.delta.Op.{Op}
 use Rattle.ops.specs.declared.delta.Op.the-variants.{Insert}
 use Rattle.ops.specs.declared.delta.DeltaOp.{DeltaOp}
 use Rattle.ops.specs.declared.delta.Delta.{Delta}
-use Rattle.deltas.specs.Turns.{givenAt, heldBy, brings, ruleOf, laid, bringing, given, Tried}
+use Rattle.carrying.specs.Turns.{givenAt, heldBy, brings, ruleOf, laid, bringing, given, Tried}
 
 -- ---- one operation
 module _ {h : Head} {m : List ℕ} {p : Place} where

@@ -4,7 +4,7 @@ ghost use Prim.Native.Nat.{_+_, _≤_};
 ghost use Rattle.rules.specs.Delta.{delta};
 ghost use Rattle.items.specs.Memory.{listOf};
 ghost use Rattle.changes.specs.Frame.{left, granted, Loadable};
-ghost use Rattle.deltas.specs.Turns.{laid, bringing, given};
+ghost use Rattle.carrying.specs.Turns.{laid, bringing, given};
 use crate::turns::carry_out;
 use arena::At;
 use arena::Place;
@@ -14,7 +14,7 @@ use items::head::Head;
 use ops::delta::Delta;
 
 // 4 is decided by what the operations made, while the sheet is still untouched. `used` is how many units it has in use afterwards.
-pub(crate) fn carry_all(h: Head, items: &mut [u64], ops: Delta, used: u32) -> Answer
+pub fn carry_all(h: Head, items: &mut [u64], ops: Delta, used: u32) -> Answer
     requires { ⌜ Loadable h (now items) × (ops .count ≤ 256) × (h .units + bringing (given ops) ≤ 16384) ⌝ }
     ensures { λ r. ⌜ left r (now (items .exit)) ≡ granted (delta (laid (h .units) (given ops)) (listOf h (now (items .entry))) (h .items)) used h (now (items .entry)) ⌝ }
 {
