@@ -1,9 +1,9 @@
 -- What the code lays out is what the rules lay out: where each text's units will stand, and how many there are. Assumes nothing.
 use Prim.Native.Nat.{ℕ, _+_, _≤_}
 use native.Mathlib.Omega.{arith}
-use mathlib.Core.Path.{_≡_, refl, ap, _∙_}
+use mathlib.Core.Path.{_≡_, refl, ap, ap₂, _∙_}
 use mathlib.Core.Bool.{false}
-use mathlib.Core.List.{List, [], _∷_, map}
+use mathlib.Core.List.{List, [], _∷_, _++_, map}
 use lib.ListN.{length, take, drop, length-drop, length-append}
 use lib.Seq.{length-take-le}
 use borrow.Author.Tests.{ltb-false}
@@ -20,6 +20,7 @@ use Rattle.ops.specs.declared.delta.Delta.{Delta}
 use Rattle.ops.specs.Ops.{opFor, opOf, opsOf}
 use Rattle.deltas.specs.Turns.{brings, laidFor, laid, bringing, given}
 use Rattle.deltas.specs.Checks.{pastEnd, anyPast}
+use Rattle.deltas.specs.Texts.{unitsOf}
 use Rattle.deltas.proofs.Refusals.{left-false}
 
 module _ (t : List ℕ) where
@@ -33,11 +34,19 @@ module _ (t : List ℕ) where
   laid-one (Delete n) a os m e = let z : m ≡ m + 0 = omega arith in ap (λ (k : ℕ). rules.delete n ∷ laidOut k os) z
   laid-one (Retain n) a os m e = let z : m ≡ m + 0 = omega arith in ap (λ (k : ℕ). rules.retain n a ∷ laidOut k os) z
 
-  new-one : (o : Op) (a : Set) (os : List (rules.Op Body)) → pastEnd (length t) o ≡ false → length (newUnits (opFor t a o ∷ os)) ≡ brings o + length (newUnits os)
-  new-one (Insert (Text s n)) a os e = length-append (take n (drop s t)) (newUnits os) ∙ ap (λ (k : ℕ). k + length (newUnits os)) (part-length s n (ltb-false (length t) (s + n) e))
-  new-one (Insert (Embed x)) a os e = omega arith
-  new-one (Delete n) a os e = omega arith
-  new-one (Retain n) a os e = omega arith
+  -- as many units as it brings ..
+  pub units-long : (o : Op) → pastEnd (length t) o ≡ false → length (unitsOf t o) ≡ brings o
+  units-long (Insert (Text s n)) e = part-length s n (ltb-false (length t) (s + n) e)
+  units-long (Insert (Embed x)) e = refl
+  units-long (Delete n) e = refl
+  units-long (Retain n) e = refl
+
+  -- .. in front of those of the operations behind it
+  pub new-cons : (o : Op) (a : Set) (os : List (rules.Op Body)) → newUnits (opFor t a o ∷ os) ≡ unitsOf t o ++ newUnits os
+  new-cons (Insert (Text s n)) a os = refl
+  new-cons (Insert (Embed x)) a os = refl
+  new-cons (Delete n) a os = refl
+  new-cons (Retain n) a os = refl
 
   -- ---- all of them
   laid-all : (ds : List DeltaOp) (m : ℕ) → anyPast (length t) ds ≡ false → laidOut m (map (opOf t) ds) ≡ laid m ds
@@ -52,7 +61,7 @@ module _ (t : List ℕ) where
   new-all [] e = refl
   new-all (d ∷ ds) e =
       let b = left-false (pastEnd (length t) (d .op)) (anyPast (length t) ds) e in
-      new-one (d .op) (says (d .attrs)) (map (opOf t) ds) (b .0) ∙ ap (λ (k : ℕ). brings (d .op) + k) (new-all ds (b .1))
+      ap length (new-cons (d .op) (says (d .attrs)) (map (opOf t) ds)) ∙ length-append (unitsOf t (d .op)) _ ∙ ap₂ (λ (a b : ℕ). a + b) (units-long (d .op) (b .0)) (new-all ds (b .1))
 
   -- ---- a delta's
   pub laid-is : (d : Delta) (m : ℕ) → anyPast (length t) (given d) ≡ false → laidOut m (opsOf t d) ≡ laid m (given d)

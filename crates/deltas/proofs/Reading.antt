@@ -6,11 +6,13 @@ use mathlib.Core.Path.{_≡_, sym, ap, _∙_}
 use mathlib.Core.Bool.{Bool, true, false, _||_}
 use mathlib.Core.List.{List, _∷_}
 use lib.ListN.{length, drop, drop-of-length-le}
-use borrow.Author.Tests.{lt-ltb, le-ltb}
+use lib.Dec.{ltb}
+use borrow.Author.Tests.{ltb-false, lt-ltb, le-ltb}
 use Rattle.ops.specs.declared.delta.DeltaOp.{DeltaOp}
 use Rattle.ops.specs.declared.delta.Delta.{Delta}
 use Rattle.deltas.specs.Turns.{brings, bringing, given}
 use Rattle.deltas.specs.Checks.{pastEnd, anyPast, manyOf}
+use Rattle.deltas.proofs.Refusals.{left-false}
 
 -- ---- a part past the end
 module _ (n : ℕ) (ds : List DeltaOp) (i : ℕ) where
@@ -41,6 +43,10 @@ many-count n d l = rw (lt-ltb 256 (d .count) l)
 pub many-parts : (n : ℕ) (d : Delta) → d .count ≤ 256 → (b : Bool) → anyPast n (given d) ≡ b → b ≡ manyOf n d
 unfolding manyOf
 many-parts n d l b e = sym e ∙ ap (λ (x : Bool). x || anyPast n (given d)) (sym (le-ltb 256 (d .count) l))
+
+pub many-none : (n : ℕ) (d : Delta) → manyOf n d ≡ false → (d .count ≤ 256) × (anyPast n (given d) ≡ false)
+unfolding manyOf
+many-none n d e = let b = left-false (ltb 256 (d .count)) (anyPast n (given d)) e in (ltb-false 256 (d .count) (b .0), b .1)
 
 -- ---- how many units
 pub total-next : (ds : List DeltaOp) (i : ℕ) (d : DeltaOp) → drop i ds ≡ d ∷ drop (suc i) ds → (sum : ℕ) → sum + bringing (drop i ds) ≡ bringing ds → sum + brings (d .op) + bringing (drop (i + 1) ds) ≡ bringing ds

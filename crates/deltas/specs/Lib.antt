@@ -1,3 +1,5 @@
 pub mod Turns
 pub mod Checks
 pub mod Faults
+pub mod Texts
+pub mod Call

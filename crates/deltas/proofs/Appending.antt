@@ -1,0 +1,98 @@
+-- Texts put behind one another: what is left to put gives what there was to put at first. Assumes nothing.
+use Prim.Native.Nat.{ℕ, suc, _+_, _≤_}
+use native.Mathlib.Numerals.{add-one}
+use native.Mathlib.Omega.{arith}
+use mathlib.Core.Path.{_≡_, refl, sym, ap, subst⁻¹, _∙_}
+use mathlib.Core.Bool.{false}
+use mathlib.Core.List.{List, [], _∷_, _++_, map, append-assoc}
+use lib.ListN.{length, take, drop, length-append, drop-of-length-le}
+use lib.Seq.{length-take-le, length-front, take-at, drop-append-add, drop-drop, paste-zero}
+use Rattle.attrs.specs.Packed.{says}
+use Rattle.rules.specs.Calls.{newUnits}
+use Rattle.ops.specs.declared.delta.Op.{Op}
+use Rattle.ops.specs.declared.delta.DeltaOp.{DeltaOp}
+use Rattle.ops.specs.Ops.{opOf}
+use Rattle.deltas.specs.Turns.{brings, bringing}
+use Rattle.deltas.specs.Checks.{pastEnd, anyPast}
+use Rattle.deltas.specs.Texts.{unitsOf, appended}
+use Rattle.deltas.proofs.Refusals.{left-false}
+use Rattle.deltas.proofs.Laid.{units-long, new-cons}
+
+-- ---- once
+module _ (u xs : List ℕ) (a n : ℕ) (low : a ≤ length u) (long : length xs ≡ n) where
+  front-long : length (take a u ++ xs) ≡ a + n
+  front-long = omega (arith, length-append (take a u) xs, length-take-le a u low)
+
+  pub appended-is : (take a u ++ xs) ++ drop (a + n) u ≡ appended a xs u
+  appended-is = ap (λ (k : ℕ). (take a u ++ xs) ++ drop k u) (sym front-long)
+
+  pub appended-length : a + n ≤ length u → length (appended a xs u) ≡ length u
+  appended-length room =
+      let e : List ℕ = take a u ++ xs in
+      length-front u e (length e) (sym (length-take-le (length e) u (omega (arith, front-long))))
+
+  -- and behind that once more
+  pub appended-twice : (ys : List ℕ) → appended (a + n) ys (appended a xs u) ≡ appended a (xs ++ ys) u
+  appended-twice ys =
+      let p : List ℕ = take a u ++ xs in
+      let q : List ℕ = drop (length p) u in
+      ap (λ (x : List ℕ). (x ++ ys) ++ drop (length (x ++ ys)) (p ++ q)) (take-at p q (a + n) front-long)
+      ∙ ap (λ (k : ℕ). (p ++ ys) ++ drop k (p ++ q)) (length-append p ys)
+      ∙ ap (λ (x : List ℕ). (p ++ ys) ++ x) (drop-append-add p q (length ys) ∙ drop-drop (length ys) (length p) u)
+      ∙ ap (λ (k : ℕ). (p ++ ys) ++ drop k u) (sym (length-append p ys))
+      ∙ ap (λ (x : List ℕ). x ++ drop (length x) u) (append-assoc (take a u) xs ys)
+
+pub appended-none : (u : List ℕ) (a : ℕ) → a ≤ length u → u ≡ appended a [] u
+appended-none u a low = paste-zero u a [] ∙ appended-is u [] a 0 low refl
+
+-- an operation that is known, and has no text
+pub nothing-put : {o p : Op} (t u : List ℕ) (a : ℕ) → a ≤ length u → o ≡ p → unitsOf t p ≡ [] → u ≡ appended a (unitsOf t o) u
+nothing-put t u a low e none = appended-none u a low ∙ ap (λ (x : List ℕ). appended a x u) (sym (ap (unitsOf t) e ∙ none))
+
+-- ---- on the way
+pub record Putting (t : List ℕ) (ds : List DeltaOp) (goal : List ℕ) (i at : ℕ) (u : List ℕ) : Type 0 where
+  pub long : length u ≡ 16384
+  pub room : at + bringing (drop i ds) ≤ 16384
+  pub parts : anyPast (length t) (drop i ds) ≡ false
+  pub rest : appended at (newUnits (map (opOf t) (drop i ds))) u ≡ goal
+
+pub putting-start : (t : List ℕ) (ds : List DeltaOp) (at : ℕ) (u : List ℕ) → length u ≡ 16384 → at + bringing ds ≤ 16384 → anyPast (length t) ds ≡ false
+    → Putting t ds (appended at (newUnits (map (opOf t) ds)) u) 0 at u
+putting-start t ds at u l r p = record { long = l; room = r; parts = p; rest = refl }
+
+module _ {t : List ℕ} {ds : List DeltaOp} {goal : List ℕ} {i at : ℕ} {u : List ℕ} (o : Putting t ds goal i at u) where
+  module _ (d : DeltaOp) (is : drop i ds ≡ d ∷ drop (suc i) ds) where
+    both : (pastEnd (length t) (d .op) ≡ false) × (anyPast (length t) (drop (suc i) ds) ≡ false)
+    unfolding anyPast
+    both = left-false (pastEnd (length t) (d .op)) _ (sym (ap (anyPast (length t)) is) ∙ o .parts)
+
+    pub put-part : pastEnd (length t) (d .op) ≡ false
+    put-part = both .0
+
+    pub put-room : at + brings (d .op) + bringing (drop (suc i) ds) ≤ 16384
+    unfolding bringing
+    put-room = omega (arith, o .room, ap bringing is)
+
+    put-rest : appended (at + brings (d .op)) (newUnits (map (opOf t) (drop (suc i) ds))) (appended at (unitsOf t (d .op)) u) ≡ goal
+    unfolding opOf
+    put-rest =
+        appended-twice u (unitsOf t (d .op)) at (brings (d .op)) (omega (arith, put-room, o .long)) (units-long t (d .op) put-part) _
+        ∙ ap (λ (x : List ℕ). appended at x u) (sym (new-cons t (d .op) (says (d .attrs)) (map (opOf t) (drop (suc i) ds))))
+        ∙ ap (λ (l : List DeltaOp). appended at (newUnits (map (opOf t) l)) u) (sym is)
+        ∙ o .rest
+
+    pub putting-next : (u₁ : List ℕ) → u₁ ≡ appended at (unitsOf t (d .op)) u → (at₁ : ℕ) → at₁ ≡ at + brings (d .op) → Putting t ds goal (i + 1) at₁ u₁
+    putting-next u₁ eu at₁ ea =
+        rw (add-one i, eu, ea)
+        (record {
+          long = appended-length u (unitsOf t (d .op)) at (brings (d .op)) (omega (arith, put-room, o .long)) (units-long t (d .op) put-part) (omega (arith, put-room, o .long)) ∙ o .long;
+          room = put-room;
+          parts = both .1;
+          rest = put-rest;
+        })
+
+  pub putting-done : length ds ≤ i → u ≡ goal
+  putting-done e =
+      appended-none u at (omega (arith, o .room, o .long))
+      ∙ ap (λ (l : List DeltaOp). appended at (newUnits (map (opOf t) l)) u) (sym (drop-of-length-le ds e))
+      ∙ o .rest
