@@ -2,7 +2,7 @@
 use Prim.Native.Nat.{ℕ}
 use mathlib.Core.Bool.{Bool, true, false}
 use mathlib.Core.List.{List, [], _∷_, map}
-use lib.ListN.{take}
+use lib.ListN.{length, take}
 use mathlib.Core.Path.{_≡_}
 use Rattle.attrs.specs.Sets.{Set}
 use Rattle.attrs.specs.Packed.{says}
@@ -14,11 +14,16 @@ use Rattle.ops.specs.declared.delta.Inserted.the-variants.{Text, Embed}
 use Rattle.ops.specs.declared.delta.Op.{Op}
 use Rattle.ops.specs.declared.delta.Op.the-variants.{Insert, Delete, Retain}
 use Rattle.ops.specs.declared.delta.DeltaOp.{DeltaOp}
+use Rattle.ops.specs.declared.delta.Delta.{Delta}
 use Rattle.ops.specs.Ops.{opFor, opOf, opsOf}
+use Rattle.items.specs.declared.head.Head.{Head}
 use Rattle.sheet.proofs.Theorems.{says-fine}
-use Rattle.demands.specs.Steps.{State, sound, Step, does, turned, after, begun, callsOf, deltaStep}
+use Rattle.deltas.specs.Checks.{manyOf}
+use Rattle.deltas.specs.Call.{shortScratch, carryDelta}
+use Rattle.demands.specs.Steps.{State, sound, Step, does, turned, answered, after, begun, callsOf, deltaStep}
 use Rattle.demands.specs.Requests.{Request, insert, insertWithAttributes, embed, embedWithAttributes, format, remove, delta, stepOf, TypedOp, TypedOps, Typed, AllTyped}
 use Rattle.demands.specs.Demands.{Replays}
+use Rattle.demands.proofs.Bridge.{delta-step}
 use Rattle.demands.proofs.Transaction.{begin-to-event}
 
 op-fine : (us : List ℕ) (a : Set) (o : Op) → TypedOp o → FineSet Byte a → (rest : List (rules.Op Body)) → FineOps rest → FineOps (opFor us a o ∷ rest)
@@ -45,7 +50,7 @@ request-fine (embed i e) t = (tt, t)
 request-fine (embedWithAttributes i e a) t = (tt, (t .0, says-fine a (t .1)))
 request-fine (format i n a) t = (tt, says-fine a t)
 request-fine (remove i n) t = (tt, tt)
-request-fine (delta many short us d) t = go many short
+request-fine (delta sm su us d) t = go (manyOf (length us) d) (shortScratch sm su)
   where
     go : (many short : Bool) → FineEdit (deltaStep many short (opsOf us d))
     go true short = tt
@@ -59,6 +64,11 @@ edits-on (turned n) ts f d = d
 pub requests-edit : (rs : List Request) → AllTyped rs → Edits (callsOf (map stepOf rs))
 requests-edit [] t = tt
 requests-edit (r ∷ rs) t = edits-on (stepOf r) (map stepOf rs) (request-fine r (t .0)) (requests-edit rs (t .1))
+
+-- What `apply_delta` promises to leave is what its step leaves.
+pub delta-is : (sm su : ℕ) (us : List ℕ) (d : Delta) (h : Head) (m u : List ℕ) → carryDelta sm su us d h m u ≡ answered (stepOf (delta sm su us d)) (record { head = h; words = m; units = u })
+unfolding carryDelta
+delta-is sm su us d h m u = delta-step (manyOf (length us) d) (shortScratch sm su) (opsOf us d) h m u
 
 -- The third demand, for any sequence of public calls.
 pub transaction-told : (s : State) → sound s ≡ true → (rs : List Request) → AllTyped rs → (w o : List ℕ) → Replays s (after (map stepOf rs) (begun s)) w o

@@ -1,8 +1,7 @@
 -- The public calls that edit, with the arguments that they are handed, and the step that each is.
 use Prim.Native.Nat.{ℕ, _<_}
-use mathlib.Core.Bool.{Bool}
 use mathlib.Core.List.{List, [], _∷_}
-use lib.ListN.{getD, take}
+use lib.ListN.{length, getD, take}
 use Rattle.attrs.specs.declared.Attrs.{Attrs}
 use Rattle.attrs.specs.Packed.{says}
 use Rattle.rules.specs.Calls.{insertText, insertTextWith, insertEmbed, insertEmbedWith, formatRange, removeRange}
@@ -13,9 +12,11 @@ use Rattle.ops.specs.declared.delta.Op.the-variants.{Insert, Delete, Retain}
 use Rattle.ops.specs.declared.delta.DeltaOp.{DeltaOp}
 use Rattle.ops.specs.declared.delta.Delta.{Delta}
 use Rattle.ops.specs.Ops.{opsOf}
+use Rattle.deltas.specs.Checks.{manyOf}
+use Rattle.deltas.specs.Call.{shortScratch}
 use Rattle.demands.specs.Steps.{Step, does, deltaStep}
 
--- A delta comes with the two tests that turn it away: too much in it, scratch too short.
+-- A delta comes with how much scratch is lent, of words and of units.
 pub data Request : Type 0 where
   insert : ℕ → List ℕ → Request
   insertWithAttributes : ℕ → List ℕ → Attrs → Request
@@ -23,7 +24,7 @@ pub data Request : Type 0 where
   embedWithAttributes : ℕ → ℕ → Attrs → Request
   format : ℕ → ℕ → Attrs → Request
   remove : ℕ → ℕ → Request
-  delta : Bool → Bool → List ℕ → Delta → Request
+  delta : ℕ → ℕ → List ℕ → Delta → Request
 
 -- What each promises to carry out.
 abbrev pub stepOf : Request → Step
@@ -33,7 +34,7 @@ stepOf (embed i e) = does (insertEmbed i e)
 stepOf (embedWithAttributes i e a) = does (insertEmbedWith i e (says a))
 stepOf (format i n a) = does (formatRange i n (says a))
 stepOf (remove i n) = does (removeRange i n)
-stepOf (delta many short us d) = deltaStep many short (opsOf us d)
+stepOf (delta sm su us d) = deltaStep (manyOf (length us) d) (shortScratch sm su) (opsOf us d)
 
 -- Arguments of their types: the values of a set are bytes, an embed's number has 32 bits.
 abbrev pub Bytes : Attrs → Type 0
@@ -59,7 +60,7 @@ Typed (embed i e) = e < 4294967296
 Typed (embedWithAttributes i e a) = (e < 4294967296) × Bytes a
 Typed (format i n a) = Bytes a
 Typed (remove i n) = Unit {0}
-Typed (delta many short us d) = TypedOps (take (d .count) (d .ops))
+Typed (delta sm su us d) = TypedOps (take (d .count) (d .ops))
 
 abbrev pub AllTyped : List Request → Type 0
 AllTyped [] = Unit {0}
