@@ -5,17 +5,19 @@ use mathlib.Core.Path.{_≡_, refl, sym, ap, subst⁻¹, _∙_}
 use mathlib.Core.Bool.{Bool, true, false}
 use mathlib.Core.List.{List, [], _∷_, map}
 use mathlib.Core.Logic.{_↔_}
-use lib.ListN.{length, getD}
+use lib.ListN.{length, getD, take}
 use Rattle.attrs.specs.Sets.{Set, keys}
 use Rattle.attrs.specs.Packed.{says}
 use Rattle.rules.specs.Reading as rules
 use Rattle.rules.specs.Reading.{live, before, cells}
-use Rattle.rules.specs.Calls.{Sheet, Body, Call, applyDelta, call}
+use Rattle.rules.specs.Calls.{Sheet, Body, Call, applyDelta, call, AllPaired}
 use Rattle.rules.specs.Rulings.{unwhole, inPair, tooFar, crowded, Exactly, FineSet, Byte, FineOps}
 use Rattle.rules.specs.Shows.{shows}
 use Rattle.laws.proofs.Lists.{In}
 use Rattle.items.specs.declared.head.Head.{Head}
 use Rattle.items.specs.Memory.{listOf, modelOf, soundOf, Carried, keptAll, carry}
+use Rattle.items.proofs.Soundness.{sound-parts}
+use Rattle.items.proofs.Models.{model-sound}
 use Rattle.sheet.proofs.Theorems as sheet
 use Rattle.ops.specs.declared.delta.Inserted.the-variants.{Text, Embed}
 use Rattle.ops.specs.declared.delta.Op.{Op}
@@ -116,6 +118,10 @@ module _ (sm su : ℕ) (t : List ℕ) (d : Delta) (h : Head) (m u : List ℕ) wh
         go (many x y e) = by (keptAll 7 h m u) e ok
         go (short x y z e) = by (keptAll 8 h m u) e ok
         go (ruled x y z e) = by (carry c h m u) e (sheet.leaves-sound c h m u x fine)
+
+    -- No piece holds half a pair.
+    pub leaves-pairs : soundOf h m u ≡ true → AllPaired (take (new .head .units) (new .units)) (listOf (new .head) (new .words))
+    leaves-pairs ok = model-sound (new .head) (new .words) (new .units) (sound-parts (new .head) (new .words) (new .units) (leaves-sound ok)) .pairs
 
     module _ (done : new .refusal ≡ 0) where
       accepted : (soundOf h m u ≡ true) × (new ≡ carry c h m u)

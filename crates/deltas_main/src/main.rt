@@ -112,115 +112,113 @@ fn applies(
     a.head
 }
 
+// On a fresh sheet.
+fn begins(name: &[u8], d: Delta, chunk: &[u16]) {
+    let mut items = [0u64; 2048];
+    let mut units = [0u16; 16384];
+    applies(name, Head::fresh(), &mut items, &mut units, d, chunk);
+}
+
+// The same with other scratch.
+fn measures(name: &[u8], d: Delta, words: &[u64], room: &[u16]) {
+    let mut items = [0u64; 2048];
+    let mut units = [0u16; 16384];
+    let none = [0u16; 1];
+    let a = apply_delta(Head::fresh(), &mut items, &mut units, d, &none, words, room);
+    report(name, a, &items, &units);
+}
+
 fn and(d: Delta, op: Op) -> Delta {
-    let one = DeltaOp {
-        op,
-        attrs: Attrs::empty(),
-    };
-    d.push(one).delta
+    let attrs = Attrs::empty();
+    d.push(DeltaOp { op, attrs }).delta
+}
+
+fn one(op: Op) -> Delta {
+    and(Delta::empty(), op)
 }
 
 fn text(start: u32, len: u32) -> Op {
     Op::Insert(Inserted::Text { start, len })
 }
 
-fn embed() -> Op {
-    Op::Insert(Inserted::Embed(9))
-}
-
 // "abcd" with 0=1 on its second half.
-fn half_bold(items: &mut [u64], units: &mut [u16], abcd: &[u16]) -> Head {
-    let h = insert(Head::fresh(), items, units, 0, abcd).head;
+fn half_bold(items: &mut [u64], units: &mut [u16]) -> Head {
+    let abcd = [97u16, 98, 99, 100];
+    let h = insert(Head::fresh(), items, units, 0, &abcd).head;
     format(h, items, units, 2, 2, Attrs::empty().with(0, 1).attrs).head
 }
 
 fn b11() {
     let mut items = [0u64; 2048];
     let mut units = [0u16; 16384];
-    let abcd = [97u16, 98, 99, 100];
-    let h = half_bold(&mut items, &mut units, &abcd);
-    let kept = and(Delta::empty(), Op::Retain(1));
-    let d = and(and(kept, Op::Delete(1)), Op::Delete(1));
-    applies(b"B11", h, &mut items, &mut units, d, &abcd);
+    let h = half_bold(&mut items, &mut units);
+    let none = [0u16; 1];
+    let d = and(and(one(Op::Retain(1)), Op::Delete(1)), Op::Delete(1));
+    applies(b"B11", h, &mut items, &mut units, d, &none);
 }
 
 // The text may end with the lent units, not past them; even an empty one may not start past them.
+fn lent() {
+    let xy = [88u16, 89];
+    begins(b"starts past", one(text(3, 0)), &xy);
+    begins(b"ends past", one(text(2, 1)), &xy);
+    begins(b"ends there", and(one(text(2, 0)), text(1, 1)), &xy);
+}
+
 fn texts() {
     let mut items = [0u64; 2048];
     let mut units = [0u16; 16384];
     let xy = [88u16, 89];
-    let h = Head::fresh();
-    let past = and(Delta::empty(), text(3, 0));
-    applies(b"starts past", h, &mut items, &mut units, past, &xy);
-    let over = and(Delta::empty(), text(2, 1));
-    applies(b"ends past", h, &mut items, &mut units, over, &xy);
-    let at_end = and(and(Delta::empty(), text(2, 0)), text(1, 1));
-    let g = applies(b"ends there", h, &mut items, &mut units, at_end, &xy);
-    let both = and(and(Delta::empty(), text(0, 2)), text(0, 1));
-    let done = applies(b"two texts", g, &mut items, &mut units, both, &xy);
-    let much = and(and(Delta::empty(), text(0, 2)), Op::Delete(5));
-    applies(b"too much", done, &mut items, &mut units, much, &xy);
+    let both = and(one(text(0, 2)), text(0, 1));
+    let h = applies(
+        b"two texts",
+        Head::fresh(),
+        &mut items,
+        &mut units,
+        both,
+        &xy,
+    );
+    let much = and(one(text(0, 2)), Op::Delete(4));
+    applies(b"too much", h, &mut items, &mut units, much, &xy);
 }
 
-// 255 operations that do nothing, and an embed.
-fn counts() {
-    let mut items = [0u64; 2048];
-    let mut units = [0u16; 16384];
-    let none = [0u16; 1];
+// Operations that do nothing, and an embed as the 256th.
+fn counts(count: u32) -> Delta {
+    let attrs = Attrs::empty();
+    let op = Op::Insert(Inserted::Embed(9));
+    let mut d = Delta::empty();
+    d.ops[255] = DeltaOp { op, attrs };
+    d.count = count;
+    d
+}
+
+fn scratch() {
     let words = [0u64; 2048];
     let room = [0u16; 16384];
-    let h = Head::fresh();
-    let mut d = Delta::empty();
-    let last = DeltaOp {
-        op: embed(),
-        attrs: Attrs::empty(),
-    };
-    d.ops[255] = last;
-    d.count = 257;
-    applies(b"257", h, &mut items, &mut units, d, &none);
-    let many = apply_delta(h, &mut items, &mut units, d, &none, &words[..2047], &room);
-    report(b"257, short scratch", many, &items, &units);
-    d.count = 256;
-    let short = apply_delta(h, &mut items, &mut units, d, &none, &words[..2047], &room);
-    report(b"short of words", short, &items, &units);
-    let less = apply_delta(h, &mut items, &mut units, d, &none, &words, &room[..16383]);
-    report(b"short of units", less, &items, &units);
-    applies(b"256", h, &mut items, &mut units, d, &none);
+    measures(b"256", counts(256), &words, &room);
+    measures(b"257", counts(257), &words, &room);
+    measures(b"257, short scratch", counts(257), &words[..2047], &room);
+    measures(b"short of words", counts(256), &words[..2047], &room);
+    measures(b"short of units", counts(256), &words, &room[..16383]);
 }
 
 // Each operation puts 32 marks: 64 of them make 2,048 items.
+fn marks(count: u32) -> Delta {
+    let attrs = Attrs {
+        mask: 65535,
+        values: [1; 16],
+    };
+    let op = Op::Retain(0);
+    Delta {
+        count,
+        ops: [DeltaOp { op, attrs }; 256],
+    }
+}
+
 fn items_full() {
-    let mut items = [0u64; 2048];
-    let mut units = [0u16; 16384];
     let none = [0u16; 1];
-    let all = DeltaOp {
-        op: Op::Retain(0),
-        attrs: Attrs {
-            mask: 65535,
-            values: [1; 16],
-        },
-    };
-    let mut d = Delta {
-        count: 65,
-        ops: [all; 256],
-    };
-    applies(
-        b"2,080 items",
-        Head::fresh(),
-        &mut items,
-        &mut units,
-        d,
-        &none,
-    );
-    d.count = 64;
-    applies(
-        b"2,048 items",
-        Head::fresh(),
-        &mut items,
-        &mut units,
-        d,
-        &none,
-    );
+    begins(b"2,048 items", marks(64), &none);
+    begins(b"2,080 items", marks(65), &none);
 }
 
 // The first operation would fit, the delta as a whole does not.
@@ -228,7 +226,7 @@ fn units_full() {
     let mut items = [0u64; 2048];
     let mut units = [0u16; 16384];
     let chunk = [97u16; 16384];
-    let most = and(Delta::empty(), text(0, 16384));
+    let most = one(text(0, 16384));
     let h = applies(
         b"16,384 units",
         Head::fresh(),
@@ -237,14 +235,15 @@ fn units_full() {
         most,
         &chunk,
     );
-    let more = and(and(Delta::empty(), embed()), text(0, 1));
+    let more = and(one(Op::Insert(Inserted::Embed(9))), text(0, 1));
     applies(b"16,385 units", h, &mut items, &mut units, more, &chunk);
 }
 
 fn main() {
     b11();
+    lent();
     texts();
-    counts();
+    scratch();
     items_full();
     units_full();
 }
