@@ -1,8 +1,8 @@
 // What is written to standard output.
 use attrs::Attrs;
 use libc::STDOUT_FILENO;
-use lines::show::put_attrs;
-use lines::show::put_unit;
+use words::show::put_attrs;
+use words::show::put_unit;
 ghost use Prim.Native.Nat.{_+_, _≤_};
 ghost use lib.ListN.{length};
 ghost use Rattle.io.specs.Counts.{Counts};

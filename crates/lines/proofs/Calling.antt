@@ -7,13 +7,13 @@ use native.Mathlib.Omega.{arith}
 use borrow.Author.Tests.{eq-eqb, ne-eqb}
 use lib.Dec.{eqb}
 use lib.ListN.{length, getD}
-use Rattle.lines.specs.Words.{WordIs, wordAt}
-use Rattle.lines.specs.Numbers.{numberOf}
+use Rattle.words.specs.Words.{WordIs, wordAt}
+use Rattle.words.specs.Numbers.{numberOf}
 use Rattle.lines.specs.Fields.{part, readAt, startAt, gather, Gathered, Gathers}
 use Rattle.lines.specs.Calls.{kindOf, numbered, numberAt, NumberIs, bareAsked, askedOf, plainWith, plainAsked, textCall, marksOf, fieldsFrom, textWith, unitsWith, textAsked, TextAsked, rangedOf, rangedWith, rangedAsked, RangedAsked, askedBy, unitsBy, silent, nameOf, askedIn, unitsIn, CallAsked}
-use Rattle.lines.specs.declared.words.Word.{Word as Found}
-use Rattle.lines.specs.declared.numbers.Number.{Number}
-use Rattle.lines.specs.declared.numbers.Number.the-variants.{Is, Nothing as NoNumber}
+use Rattle.words.specs.declared.words.Word.{Word as Found}
+use Rattle.words.specs.declared.numbers.Number.{Number}
+use Rattle.words.specs.declared.numbers.Number.the-variants.{Is, Nothing as NoNumber}
 use Rattle.lines.specs.declared.fields.Field.{Field}
 use Rattle.lines.specs.declared.fields.Field.the-variants.{Line, Op, Word}
 use Rattle.lines.specs.declared.fields.Read.{Read}

@@ -9,12 +9,12 @@ use lib.Dec.{eqb, ltb}
 use lib.ListN.{length, set, length-set}
 use Rattle.attrs.specs.declared.Took.{Took}
 use Rattle.attrs.specs.Packed.{withAt}
-use Rattle.lines.specs.Words.{WordIs}
-use Rattle.lines.specs.Numbers.{pieceOf}
+use Rattle.words.specs.Words.{WordIs}
+use Rattle.words.specs.Numbers.{pieceOf}
 use Rattle.lines.specs.Fields.{letterOf, part, fieldOf, readOf, readAt, ReadIs, stoppedAt, orElse, pairField, unitField, pieceField, withField, pieceUnits, withUnits, Takes, Gathered, gather, Gathers}
-use Rattle.lines.specs.declared.words.Word.{Word as Found}
-use Rattle.lines.specs.declared.numbers.Piece.{Piece}
-use Rattle.lines.specs.declared.numbers.Piece.the-variants.{Unit, Pair, Nothing}
+use Rattle.words.specs.declared.words.Word.{Word as Found}
+use Rattle.words.specs.declared.numbers.Piece.{Piece}
+use Rattle.words.specs.declared.numbers.Piece.the-variants.{Unit, Pair, Nothing}
 use Rattle.lines.specs.declared.fields.Field.{Field}
 use Rattle.lines.specs.declared.fields.Field.the-variants.{Line, Op, Word}
 use Rattle.lines.specs.declared.fields.Read.{Read}

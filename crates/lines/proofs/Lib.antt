@@ -1,7 +1,3 @@
-pub mod Spans
-pub mod Figures
 pub mod Gathering
 pub mod Calling
 pub mod Operations
-pub mod Writing
-pub mod Moving

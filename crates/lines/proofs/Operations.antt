@@ -13,13 +13,13 @@ use Rattle.ops.specs.declared.delta.Op.{Op}
 use Rattle.ops.specs.declared.delta.Op.the-variants.{Insert}
 use Rattle.ops.specs.declared.delta.Delta.{Delta}
 use Rattle.ops.specs.declared.delta.Pushed.{Pushed}
-use Rattle.lines.specs.Words.{WordIs, wordAt}
+use Rattle.words.specs.Words.{WordIs, wordAt}
 use Rattle.lines.specs.Fields.{readAt, startAt, gather, Gathered, Gathers, orElse}
 use Rattle.lines.specs.Calls.{numberAt, NumberIs, nameOf}
 use Rattle.lines.specs.Deltas.{Taken, startOps, stoppedOps, longerOf, withOp, withText, textOp, opMarks, opOf, numberedWith, numberedOp, NumberedIs, sortOf, opBy, opIn, allOps, opsBy, deltaIn, ReadTo}
-use Rattle.lines.specs.declared.words.Word.{Word as Found}
-use Rattle.lines.specs.declared.numbers.Number.{Number}
-use Rattle.lines.specs.declared.numbers.Number.the-variants.{Is, Nothing as NoNumber}
+use Rattle.words.specs.declared.words.Word.{Word as Found}
+use Rattle.words.specs.declared.numbers.Number.{Number}
+use Rattle.words.specs.declared.numbers.Number.the-variants.{Is, Nothing as NoNumber}
 use Rattle.lines.specs.declared.fields.Field.{Field}
 use Rattle.lines.specs.declared.fields.Read.{Read}
 use Rattle.lines.specs.declared.fields.Fields.{Fields}

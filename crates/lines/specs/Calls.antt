@@ -7,12 +7,12 @@ use lib.Dec.{eqb}
 use lib.ListN.{length, getD}
 use Rattle.attrs.specs.Sets.{empty}
 use Rattle.attrs.specs.Packed.{packed}
-use Rattle.lines.specs.Words.{wordAt}
-use Rattle.lines.specs.Numbers.{numberOf}
+use Rattle.words.specs.Words.{wordAt}
+use Rattle.words.specs.Numbers.{numberOf}
 use Rattle.lines.specs.Fields.{letterOf, part, readAt, startAt, gather, Gathered}
-use Rattle.lines.specs.declared.words.Word.{Word as Found}
-use Rattle.lines.specs.declared.numbers.Number.{Number}
-use Rattle.lines.specs.declared.numbers.Number.the-variants.{Is, Nothing as NoNumber}
+use Rattle.words.specs.declared.words.Word.{Word as Found}
+use Rattle.words.specs.declared.numbers.Number.{Number}
+use Rattle.words.specs.declared.numbers.Number.the-variants.{Is, Nothing as NoNumber}
 use Rattle.lines.specs.declared.fields.Field.{Field}
 use Rattle.lines.specs.declared.fields.Field.the-variants.{Line, Op, Word}
 use Rattle.lines.specs.declared.fields.Fields.{Fields}

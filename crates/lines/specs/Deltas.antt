@@ -11,12 +11,12 @@ use Rattle.ops.specs.declared.delta.Op.{Op}
 use Rattle.ops.specs.declared.delta.Op.the-variants.{Insert, Delete, Retain}
 use Rattle.ops.specs.declared.delta.Delta.{Delta}
 use Rattle.ops.specs.declared.delta.Pushed.{Pushed}
-use Rattle.lines.specs.Words.{wordAt}
+use Rattle.words.specs.Words.{wordAt}
 use Rattle.lines.specs.Fields.{readAt, startAt, gather, Gathered, orElse}
 use Rattle.lines.specs.Calls.{numberAt, nameOf}
-use Rattle.lines.specs.declared.words.Word.{Word as Found}
-use Rattle.lines.specs.declared.numbers.Number.{Number}
-use Rattle.lines.specs.declared.numbers.Number.the-variants.{Is, Nothing as NoNumber}
+use Rattle.words.specs.declared.words.Word.{Word as Found}
+use Rattle.words.specs.declared.numbers.Number.{Number}
+use Rattle.words.specs.declared.numbers.Number.the-variants.{Is, Nothing as NoNumber}
 use Rattle.lines.specs.declared.fields.Field.{Field}
 use Rattle.lines.specs.declared.fields.Field.the-variants.{Line, Op as Semicolon, Word}
 use Rattle.lines.specs.declared.fields.Fields.{Fields}

@@ -7,11 +7,11 @@ use lib.Dec.{eqb, ltb}
 use lib.ListN.{length, getD, take, drop, set}
 use Rattle.attrs.specs.Sets.{empty}
 use Rattle.attrs.specs.Packed.{packed, withAt}
-use Rattle.lines.specs.Words.{wordAt}
-use Rattle.lines.specs.declared.words.Word.{Word as Found}
-use Rattle.lines.specs.Numbers.{pieceOf}
-use Rattle.lines.specs.declared.numbers.Piece.{Piece}
-use Rattle.lines.specs.declared.numbers.Piece.the-variants.{Unit, Pair, Nothing}
+use Rattle.words.specs.Words.{wordAt}
+use Rattle.words.specs.declared.words.Word.{Word as Found}
+use Rattle.words.specs.Numbers.{pieceOf}
+use Rattle.words.specs.declared.numbers.Piece.{Piece}
+use Rattle.words.specs.declared.numbers.Piece.the-variants.{Unit, Pair, Nothing}
 use Rattle.lines.specs.declared.fields.Field.{Field}
 use Rattle.lines.specs.declared.fields.Field.the-variants.{Line, Op, Word}
 use Rattle.lines.specs.declared.fields.Read.{Read}

@@ -1,7 +1,3 @@
-pub mod Words
-pub mod Numbers
 pub mod Fields
 pub mod Calls
 pub mod Deltas
-pub mod Show
-pub mod Input

@@ -5,18 +5,18 @@ use crate::fields::Fields;
 use crate::fields::letter;
 use crate::fields::read_field;
 use crate::fields::read_fields;
-use crate::numbers::Number;
-use crate::words::next_word;
 use ops::delta::Delta;
 use ops::delta::DeltaOp;
 use ops::delta::Inserted;
 use ops::delta::Op;
 use ops::delta::Pushed;
+use words::numbers::Number;
+use words::words::next_word;
 ghost use mathlib.Core.Path.{_≡_};
 ghost use Prim.Native.Nat.{_+_, _<_, _≤_};
 ghost use lib.ListN.{length};
 ghost use Rattle.lines.specs.Fields.{orElse};
-ghost use Rattle.lines.specs.Words.{wordAt};
+ghost use Rattle.words.specs.Words.{wordAt};
 ghost use Rattle.lines.specs.Deltas.{startOps, stoppedOps, longerOf, withOp, textOp, opMarks, opOf, NumberedIs, sortOf, opIn, allOps, deltaIn, ReadTo};
 
 // The operations so far, how many units of theirs lie in the lent ones, and refusal 16 where no set takes an attribute. `end` is as in `Fields`.

@@ -1,8 +1,8 @@
 // Units of text and attributes, word by word, up to the end of a line or of an operation.
-use crate::numbers::Piece;
-use crate::numbers::read_piece;
-use crate::words::next_word;
 use attrs::Attrs;
+use words::numbers::Piece;
+use words::numbers::read_piece;
+use words::words::next_word;
 ghost use mathlib.Core.Path.{_≡_};
 ghost use Prim.Native.Nat.{_≤_};
 ghost use lib.ListN.{length, set};

@@ -1,8 +1,4 @@
-// The program's lines: read from bytes, and written as bytes.
-mod words; // runs of bytes of one class; the next word
-mod numbers; // what a word says: a number, a unit, an attribute
+// The program's lines: what a line asks for.
 mod fields; // the units and attributes of a line
 pub mod calls; // the call of a line
 pub mod deltas; // the operations of a delta
-pub mod show; // numbers, units and attributes, written
-pub mod input; // lines of input that comes in parts

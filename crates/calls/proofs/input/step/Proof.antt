@@ -2,7 +2,7 @@ use borrow.Author.Needs.{needs}
 use Rattle.calls.proofs.input.step.Statement.{statement}
 use Rattle.calls.proofs.input.step.Tie as tie
 use mathlib.Core.Path.{sym, _∙_}
-use Rattle.lines.proofs.Moving.{whole-within}
+use Rattle.words.proofs.Moving.{whole-within}
 
 first-line-requires : tie.Need-first-line-requires
 first-line-requires c κs = search needs

@@ -1,0 +1,4 @@
+pub mod Spans
+pub mod Figures
+pub mod Writing
+pub mod Moving
