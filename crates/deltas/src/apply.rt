@@ -15,7 +15,7 @@ use crate::checks::total;
 use crate::faults::fault;
 use carrying::frame::carry_all;
 use items::calls::Answer;
-use items::calls::len;
+use items::calls::visible_len;
 use items::head::Head;
 use items::sound::sound;
 use ops::delta::Delta;
@@ -33,7 +33,7 @@ fn delta_fault(h: Head, items: &[u64], units: &[u16], delta: Delta, chunk: &[u16
     requires { ⌜ (soundOf h (now items) (now units) ≡ true) × (manyOf (length (now chunk)) delta ≡ false) ⌝ }
     ensures { λ r. ⌜ r ≡ check (seen (modelOf h (now (items .entry)) (now (units .entry)))) 0 (opsOf (now (chunk .entry)) delta) ⌝ }
 {
-    let all = len(h, items, units).len;
+    let all = visible_len(h, items);
     let used = h.units as usize;
     fault(h, items, &units[..used], all, delta, chunk)
 }

@@ -3,3 +3,4 @@ pub mod Chain
 pub mod Heads
 pub mod Memory
 pub mod Calls
+pub mod Walk

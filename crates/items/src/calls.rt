@@ -6,11 +6,14 @@ use crate::word::Item;
 use crate::word::pack;
 use crate::word::unpack;
 ghost use mathlib.Core.Path.{_≡_};
-ghost use Prim.Native.Nat.{_≤_};
+ghost use mathlib.Core.Bool.{true};
+ghost use mathlib.Core.List.{List};
+ghost use Prim.Native.Nat.{ℕ, _≤_};
 ghost use lib.ListN.{length};
+ghost use Rattle.rules.specs.Reading.{visible};
 ghost use Rattle.rules.specs.Calls.{beginNow};
 ghost use Rattle.items.specs.Word.{whatOf};
-ghost use Rattle.items.specs.Memory.{carry};
+ghost use Rattle.items.specs.Memory.{listOf, soundOf, carry};
 ghost use Rattle.items.specs.Calls.{answerOf, restWord, sweepTo, shownLen, lengthOf, textOf};
 
 // A refusal number, 0 for none, and the head that the sheet has afterwards.
@@ -77,13 +80,11 @@ pub fn shown_len(it: Item) -> u32
     }
 }
 
-// How many units and embeds are visible.
-pub fn len(h: Head, items: &[u64], units: &[u16]) -> Length
-    ensures { λ r. ⌜ r ≡ lengthOf h (now (items .entry)) (now (units .entry)) ⌝ }
+// How many units and embeds are visible, where the sheet is known to be sound.
+pub fn visible_len(h: Head, items: &[u64]) -> u32
+    requires { ⌜ ((u : List ℕ) × (soundOf h (now items) u ≡ true)) ⌝ }
+    ensures { λ r. ⌜ r ≡ visible (listOf h (now (items .entry))) ⌝ }
 {
-    if !sound(h, items, units) {
-        return Length { refusal: 9, len: 0 };
-    }
     let mut at = h.first;
     let mut k = h.items;
     let mut n = 0;
@@ -94,7 +95,19 @@ pub fn len(h: Head, items: &[u64], units: &[u16]) -> Length
         at = it.next;
         k -= 1;
     }
-    Length { refusal: 0, len: n }
+    n
+}
+
+pub fn len(h: Head, items: &[u64], units: &[u16]) -> Length
+    ensures { λ r. ⌜ r ≡ lengthOf h (now (items .entry)) (now (units .entry)) ⌝ }
+{
+    if !sound(h, items, units) {
+        return Length { refusal: 9, len: 0 };
+    }
+    Length {
+        refusal: 0,
+        len: visible_len(h, items),
+    }
 }
 
 // The text of item n where it lies in the lent units, deleted or not; nothing where there is no such text.

@@ -8,6 +8,7 @@ ghost use Prim.Native.Nat.{_≤_};
 ghost use lib.ListN.{length};
 ghost use Rattle.rules.specs.Sheet.{text};
 ghost use Rattle.items.specs.Word.{whatOf};
+ghost use Rattle.items.specs.Walk.{Sized, Plain};
 ghost use Rattle.items.specs.Memory.{flagsOk, lenOf, whatOk, wordOk, soundOf};
 
 fn flags_ok(dead: bool, added: bool, gone: bool) -> bool
@@ -19,8 +20,10 @@ fn flags_ok(dead: bool, added: bool, gone: bool) -> bool
     !gone
 }
 
-fn piece_ok(start: u32, len: u32, units: &[u16], used: u32) -> bool
+// `plain`, here and below: no used unit is half of a pair, so that none has to be looked at.
+fn piece_ok(start: u32, len: u32, units: &[u16], used: u32, plain: bool) -> bool
     requires { ⌜ used ≤ length (now units) ⌝ }
+    requires { ⌜ Plain plain used (now units) ⌝ }
     ensures { λ r. ⌜ r ≡ whatOk (now (units .entry)) used (text start len) ⌝ }
 {
     if len == 0 {
@@ -29,17 +32,21 @@ fn piece_ok(start: u32, len: u32, units: &[u16], used: u32) -> bool
     if start as u64 + len as u64 > used as u64 {
         return false;
     }
+    if plain {
+        return true;
+    }
     let a = start as usize;
     let e = a + len as usize;
     units::is_whole(&units[a..e])
 }
 
-fn content_ok(c: Content, units: &[u16], used: u32) -> bool
+fn content_ok(c: Content, units: &[u16], used: u32, plain: bool) -> bool
     requires { ⌜ used ≤ length (now units) ⌝ }
+    requires { ⌜ Plain plain used (now units) ⌝ }
     ensures { λ r. ⌜ r ≡ whatOk (now (units .entry)) used (whatOf c) ⌝ }
 {
     match c {
-        Content::Text { start, len } => piece_ok(start, len, units, used),
+        Content::Text { start, len } => piece_ok(start, len, units, used, plain),
         Content::Embed(_) => true,
         Content::Mark { key, value } => {
             if key < 16 {
@@ -50,8 +57,9 @@ fn content_ok(c: Content, units: &[u16], used: u32) -> bool
     }
 }
 
-fn word_ok(w: u64, units: &[u16], used: u32) -> bool
+fn word_ok(w: u64, units: &[u16], used: u32, plain: bool) -> bool
     requires { ⌜ used ≤ length (now units) ⌝ }
+    requires { ⌜ Plain plain used (now units) ⌝ }
     ensures { λ r. ⌜ r ≡ wordOk (now (units .entry)) used w ⌝ }
 {
     if !in_range(w) {
@@ -62,7 +70,7 @@ fn word_ok(w: u64, units: &[u16], used: u32) -> bool
         return false;
     }
     let c = it.content;
-    content_ok(c, units, used)
+    content_ok(c, units, used, plain)
 }
 
 fn text_len(c: Content) -> u32
@@ -77,23 +85,13 @@ fn text_len(c: Content) -> u32
 
 // One walk by the links. It stops where the texts so far are longer than all of them may be, so that no unit is read more than
 // twice, however the pieces overlap.
-pub fn sound(h: Head, items: &[u64], units: &[u16]) -> bool
+fn walk_ok(h: Head, items: &[u64], units: &[u16], plain: bool) -> bool
+    requires { ⌜ Sized h (now items) (now units) ⌝ }
+    requires { ⌜ Plain plain (h .units) (now units) ⌝ }
     ensures { λ r. ⌜ r ≡ soundOf h (now (items .entry)) (now (units .entry)) ⌝ }
 {
     let n = h.items;
     let used = h.units;
-    if items.len() != 2048 {
-        return false;
-    }
-    if units.len() != 16384 {
-        return false;
-    }
-    if n > Head::ITEMS {
-        return false;
-    }
-    if used > Head::UNITS {
-        return false;
-    }
     let mut at = h.first;
     let mut k = n;
     let mut sum = 0;
@@ -103,7 +101,7 @@ pub fn sound(h: Head, items: &[u64], units: &[u16]) -> bool
         }
         let i = at as usize;
         let w = items[i];
-        if !word_ok(w, units, used) {
+        if !word_ok(w, units, used, plain) {
             return false;
         }
         let it = unpack(w);
@@ -119,4 +117,24 @@ pub fn sound(h: Head, items: &[u64], units: &[u16]) -> bool
         return false;
     }
     sum == used
+}
+
+pub fn sound(h: Head, items: &[u64], units: &[u16]) -> bool
+    ensures { λ r. ⌜ r ≡ soundOf h (now (items .entry)) (now (units .entry)) ⌝ }
+{
+    if items.len() != 2048 {
+        return false;
+    }
+    if units.len() != 16384 {
+        return false;
+    }
+    if h.items > Head::ITEMS {
+        return false;
+    }
+    if h.units > Head::UNITS {
+        return false;
+    }
+    let used = h.units as usize;
+    let plain = units::is_plain(&units[..used]);
+    walk_ok(h, items, units, plain)
 }

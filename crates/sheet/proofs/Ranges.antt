@@ -6,20 +6,18 @@ use mathlib.Core.Bool.{Bool, true, false, cond}
 use mathlib.Core.List.{List}
 use lib.ListN.{length}
 use borrow.Author.Tests.{lt-ltb, le-ltb}
+use Rattle.rules.specs.Reading.{visible}
 use Rattle.rules.specs.Edits.{byIndex, removeHere}
 use Rattle.rules.specs.Calls.{Sheet, badRange, tooLong, removeRange}
 use Rattle.rules.specs.Rulings.{Ruling, seen, asIs, ruling}
 use Rattle.laws.proofs.Shows.{length-seen}
 use Rattle.items.specs.declared.head.Head.{Head}
-use Rattle.items.specs.declared.calls.Length.{Length}
-use Rattle.items.specs.Memory.{modelOf, soundOf}
-use Rattle.items.specs.Calls.{lengthOf}
+use Rattle.items.specs.Memory.{listOf, modelOf}
 use Rattle.sheet.specs.Ranges.{removalFault}
 
 -- the length that is read is the rules'
-pub length-is : (h : Head) (m u : List ℕ) → soundOf h m u ≡ true → (r : Length) → r ≡ lengthOf h m u → r .len ≡ length (seen (modelOf h m u))
-unfolding lengthOf
-length-is h m u ok r e = ap (λ (x : Length). x .len) (rw ok at e) ∙ sym (length-seen (modelOf h m u))
+pub length-is : (h : Head) (m u : List ℕ) (n : ℕ) → n ≡ visible (listOf h m) → n ≡ length (seen (modelOf h m u))
+length-is h m u n e = e ∙ sym (length-seen (modelOf h m u))
 
 module _ (us : List ℕ) (i n f : ℕ) (e : f ≡ cond (badRange us i n) 2 0) where
   pub fault-pair : (f ≡ 0 → ⊥) → f ≡ removalFault us i n

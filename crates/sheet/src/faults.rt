@@ -7,7 +7,7 @@ ghost use Rattle.rules.specs.Rulings.{seen};
 ghost use Rattle.items.specs.Memory.{soundOf, modelOf};
 ghost use Rattle.sheet.specs.Ranges.{removalFault};
 use cuts::cuts_pair;
-use items::calls::len;
+use items::calls::visible_len;
 use items::head::Head;
 
 // The index is of 64 bits, so that an index and a length add up exactly.
@@ -65,7 +65,7 @@ pub(crate) fn removal_fault(h: Head, items: &[u64], units: &[u16], index: u32, n
     if n == 0 {
         return 0;
     }
-    let all = len(h, items, units).len;
+    let all = visible_len(h, items);
     if index as u64 + n as u64 > all as u64 {
         return 1;
     }

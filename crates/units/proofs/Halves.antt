@@ -1,13 +1,13 @@
 -- One unit: its range, its kind, and that no unit is both halves.
 use Prim.Native.Nat.{ℕ, _≤_, _<_}
 use mathlib.Core.Path.{_≡_, refl, sym, ap, _∙_}
-use mathlib.Core.Bool.{Bool, true, false, cond, not, _&&_, false≢true}
+use mathlib.Core.Bool.{Bool, true, false, cond, not, _&&_, _||_, false≢true}
 use lib.Dec.{leb, ltb}
 use native.Mathlib.Omega.{arith}
 use borrow.Author.Tests.{leb-true, ltb-true, le-leb, lt-leb, lt-ltb, le-ltb}
 use Rattle.units.specs.declared.Kind.{Kind}
 use Rattle.units.specs.declared.Kind.the-variants.{Plain, High, Low}
-use Rattle.units.specs.Surrogates.{isHigh, isLow}
+use Rattle.units.specs.Surrogates.{isHigh, isLow, halfOf}
 use Rattle.units.specs.Kinds.{kindOf}
 
 -- ---- two tests at once
@@ -105,3 +105,26 @@ low-by-kind u = go (isHigh u) (isLow u) (high-not-low u)
     go true l f = f refl
     go false true f = refl
     go false false f = refl
+
+abbrev pub halfKind : Kind → ℕ
+halfKind Plain = 0
+halfKind High = 1
+halfKind Low = 1
+
+pub half-by-kind : (u : ℕ) → halfOf u ≡ halfKind (kindOf u)
+unfolding kindOf
+half-by-kind u = go (isHigh u) (isLow u)
+  where
+    go : (h l : Bool) → _≡_ {A = ℕ} (cond (h || l) 1 0) (halfKind (cond h High (cond l Low Plain)))
+    go true l = refl
+    go false true = refl
+    go false false = refl
+
+-- no half at all
+pub half-none : (u : ℕ) → halfOf u ≡ 0 → (isHigh u ≡ false) × (isLow u ≡ false)
+half-none u e = go (isHigh u) (isLow u) e
+  where
+    go : (h l : Bool) → _≡_ {A = ℕ} (cond (h || l) 1 0) 0 → (h ≡ false) × (l ≡ false)
+    go true l e = absurd (omega (arith, e))
+    go false true e = absurd (omega (arith, e))
+    go false false e = (refl, refl)

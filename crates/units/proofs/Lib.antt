@@ -1,2 +1,3 @@
 pub mod Halves
 pub mod Pairing
+pub mod Plain

@@ -124,7 +124,7 @@ splits-behind us vs zero e = ap (splitsPair (us ++ vs)) (add-zero (length us)) �
     seam held (u ∷ v ∷ us) e = seam (isHigh u) (v ∷ us) (rest held u (v ∷ us) e)
 
 -- ---- a whole piece of a text, cut inside where no pair of the text is split
-drop-take : (n w : ℕ) (us : List ℕ) → n ≤ w → drop n (take w us) ≡ take (w - n) (drop n us)
+pub drop-take : (n w : ℕ) (us : List ℕ) → n ≤ w → drop n (take w us) ≡ take (w - n) (drop n us)
 drop-take zero w us h = ap (λ (k : ℕ). take k us) (sym (sub-zero w))
 drop-take (suc n) zero us h = absurd (omega arith)
 drop-take (suc n) (suc w) [] h = sym (take-nil (suc w - suc n))

@@ -1,6 +1,6 @@
 -- UTF-16 units, and where they may be cut.
-use Prim.Native.Nat.{ℕ, zero, suc}
-use mathlib.Core.Bool.{Bool, true, false, not, _&&_}
+use Prim.Native.Nat.{ℕ, zero, suc, _+_}
+use mathlib.Core.Bool.{Bool, true, false, cond, not, _&&_, _||_}
 use mathlib.Core.List.{List, [], _∷_}
 use lib.Dec.{leb, ltb}
 use lib.ListN.{getD}
@@ -28,3 +28,11 @@ paired us = pairedFrom false us
 abbrev pub splitsPair : List ℕ → ℕ → Bool
 splitsPair us zero = false
 splitsPair us (suc n) = isHigh (getD us n 0) && isLow (getD us (suc n) 0)
+
+-- How many units are halves of pairs.
+abbrev pub halfOf : ℕ → ℕ
+halfOf u = cond (isHigh u || isLow u) 1 0
+
+abbrev pub halves : List ℕ → ℕ
+halves [] = 0
+halves (u ∷ us) = halfOf u + halves us

@@ -1,7 +1,9 @@
 // UTF-16 units: which are halves of a surrogate pair, whether a text is whole, and whether an index cuts a pair.
 ghost use mathlib.Core.Path.{_≡_};
+ghost use Prim.Native.Nat.{_≤_};
+ghost use lib.Dec.{eqb};
 ghost use Rattle.units.specs.Kinds.{kindOf};
-ghost use Rattle.units.specs.Surrogates.{isHigh, isLow, paired, splitsPair};
+ghost use Rattle.units.specs.Surrogates.{isHigh, isLow, paired, splitsPair, halfOf, halves};
 
 pub enum Kind {
     Plain,
@@ -58,6 +60,30 @@ pub fn is_whole(units: &[u16]) -> bool
         i += 1;
     }
     !held
+}
+
+fn half(unit: u16) -> usize
+    ensures { λ r. ⌜ (r ≡ halfOf unit) × (r ≤ 1) ⌝ }
+{
+    let kind = Kind::of(unit);
+    match kind {
+        Kind::Plain => 0,
+        Kind::High => 1,
+        Kind::Low => 1,
+    }
+}
+
+// No surrogate at all, so that every part is whole. It counts with no early end, which a processor does several units at a time.
+pub fn is_plain(units: &[u16]) -> bool
+    ensures { λ r. ⌜ r ≡ eqb (halves (now (units .entry))) 0 ⌝ }
+{
+    let mut n = 0;
+    let mut i = 0;
+    while i < units.len() {
+        n += half(units[i]);
+        i += 1;
+    }
+    n == 0
 }
 
 // Whether `index` falls between the two halves of a pair of `units`; at the ends and past them it does not.

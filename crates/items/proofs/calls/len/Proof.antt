@@ -1,114 +1,24 @@
--- `items::calls::len` meets its contract. The invariant: what was counted and the visible length of the rest are that of the whole. Assumes nothing.
-use Prim.Native.Nat.{_≤_, _<_, _+_, _-_}
-use native.Mathlib.Omega.{arith}
-use mathlib.Core.Path.{_≡_, sym, _∙_}
-use mathlib.Core.Bool.{true}
+-- `items::calls::len` meets its contract. Assumes nothing.
+use mathlib.Core.Path.{sym, _∙_}
 use borrow.Author.Needs.{needs}
 use borrow.Author.Tests.{not-true, not-false}
-use lib.ListN.{length}
 use denote.Ref.{now}
-use Rattle.rules.specs.Reading.{visible}
-use Rattle.items.specs.Chain.{nextAt, chain, walks}
-use Rattle.items.specs.Memory.{Sound}
-use Rattle.items.proofs.Links.{walks-lt, walks-next}
-use Rattle.items.proofs.Soundness.{sound-parts}
-use Rattle.items.proofs.Showing.{visible-step, visible-end, visible-room, length-broken, length-is}
+use Rattle.items.proofs.Showing.{length-broken, length-is}
 use Rattle.items.proofs.calls.len.Statement.{statement}
 use Rattle.items.proofs.calls.len.Tie as tie
 
-abbrev Inv-loop : tie.InvT-loop
-Inv-loop items units at₀ k₀ n₀ at k n = (k ≤ k₀) × (walks k₀ k items at ≡ true) × (n + visible (chain k items at) ≡ visible (chain k₀ items at₀))
-
-abbrev μ-loop : tie.MeasureT-loop
-μ-loop items units at₀ k₀ n₀ at k n = k
-
--- at each turn: the sheet is sound, and the item is one of the buffer
-sound-here : (c : tie.At-loop Inv-loop μ-loop) → (
-    let a = c .before .before .before .before .before .args in
-    Sound (a .h) (now (a .items)) (now (a .units))
-    )
-sound-here c = sound-parts _ _ _ (sym (c .before .before .sound .ensures) ∙ not-false _ (c .before .if1 .left))
-
-inside : (c : tie.In-loop Inv-loop μ-loop) → (c .before .loop .at < 2048) × (length (now (c .before .before .before .before .before .before .args .items)) ≡ 2048)
-inside c =
-    let s = sound-here (c .before) in
-    (omega (arith, walks-lt _ _ _ _ (c .loop-test .taken) (c .before .loop .inv .1), s .items), s .words)
-
--- what the turn adds
-added : (c : tie.After-shown-len Inv-loop μ-loop) → (
-    let l = c .before .before .before .before in
-    let m = now (l .before .before .before .before .before .args .items) in
-    l .loop .n + c .shown-len .result + visible (chain (l .loop .k - 1) m (nextAt m (l .loop .at))) ≡ l .loop .n + visible (chain (l .loop .k) m (l .loop .at))
-    )
-added c =
-    let l = c .before .before .before .before in
-    let e = rw (c .before .unpack .ensures) at (c .shown-len .ensures) in
-    omega (arith, e, visible-step (l .loop .k) (now (l .before .before .before .before .before .args .items)) (l .loop .at) (omega arith))
-
-sound-requires : tie.Need-sound-requires Inv-loop μ-loop
+sound-requires : tie.Need-sound-requires
 sound-requires c κs = search needs
 
-returns : tie.Need-returns Inv-loop μ-loop
+returns : tie.Need-returns
 returns c = length-broken _ _ _ (sym (c .before .sound .ensures) ∙ not-true _ (c .if1 .taken))
 
-loop-holds : tie.Need-loop-holds Inv-loop μ-loop
-loop-holds c =
-    let s = sound-parts _ _ _ (sym (c .before .sound .ensures) ∙ not-false _ (c .if1 .left)) in
-    (omega arith, s .walk, omega arith)
+visible-len-requires : tie.Need-visible-len-requires
+visible-len-requires c κs = (_, sym (c .before .sound .ensures) ∙ not-false _ (c .if1 .left))
 
-cast-i : tie.Need-cast-i Inv-loop μ-loop
-cast-i c = omega (arith, inside c)
-
-mul-unpack : tie.Need-mul-unpack Inv-loop μ-loop
-mul-unpack c = omega (arith, inside c)
-
-shared-slice-read-unpack : tie.Need-shared-slice-read-unpack Inv-loop μ-loop
-shared-slice-read-unpack c = omega (arith, inside (c .before))
-
-unpack-requires : tie.Need-unpack-requires Inv-loop μ-loop
-unpack-requires c κs = search needs
-
-shown-len-requires : tie.Need-shown-len-requires Inv-loop μ-loop
-shown-len-requires c κs = search needs
-
-add-n : tie.Need-add-n Inv-loop μ-loop
-add-n c =
-    let l = c .before .before .before .before in
-    omega (arith, added c, l .loop .inv .2, visible-room _ _ _ (sound-here l))
-
-sub-k : tie.Need-sub-k Inv-loop μ-loop
-sub-k c = omega arith
-
-loop-less : tie.Need-loop-less Inv-loop μ-loop
-loop-less c = omega arith
-
-loop-again : tie.Need-loop-again Inv-loop μ-loop
-loop-again c =
-    let l = c .before .before .before .before in
-    rw (c .before .unpack .ensures) (omega arith, walks-next _ _ _ _ (omega arith) (l .loop .inv .1), added c ∙ l .loop .inv .2)
-
-returns-2 : tie.Need-returns-2 Inv-loop μ-loop
-returns-2 c =
-    let l = c .before in
-    let e = visible-end _ _ _ _ (c .loop-test .left) in
-    length-is _ _ _ _ (sym (l .before .before .sound .ensures) ∙ not-false _ (l .before .if1 .left)) (sym e ∙ l .loop .inv .2)
+returns-2 : tie.Need-returns-2
+returns-2 c = length-is _ _ _ _ (sym (c .before .before .sound .ensures) ∙ not-false _ (c .before .if1 .left)) (c .visible-len .ensures)
 
 pub len-spec : {M : Type 1} → statement M
 len-spec =
-    tie.close
-    (tie.spec
-    Inv-loop
-    μ-loop
-    sound-requires
-    returns
-    loop-holds
-    cast-i
-    mul-unpack
-    shared-slice-read-unpack
-    unpack-requires
-    shown-len-requires
-    add-n
-    sub-k
-    loop-less
-    loop-again
-    returns-2)
+    tie.close (tie.spec sound-requires returns visible-len-requires returns-2)

@@ -2,7 +2,8 @@
 use Prim.Native.Nat.{_+_, _<_, _≤_}
 use native.Mathlib.Omega.{arith}
 use native.Mathlib.Nat.{add-sub-cancel-left}
-use mathlib.Core.Path.{sym}
+use mathlib.Core.Path.{sym, _∙_}
+use Rattle.units.proofs.Plain.{plain-piece}
 use Rattle.items.proofs.Soundness.{piece-empty, piece-out, piece-in}
 use borrow.Author.Needs.{needs}
 use Rattle.items.proofs.sound.piece_ok.Statement.{statement}
@@ -37,7 +38,14 @@ is-whole-requires c κs = search needs
 
 returns-3 : tie.Need-returns-3
 returns-3 c =
-    let a = c .before .before .before .before .before .args in
+    let s = c .before .before .before .before in
+    let z : 0 < s .args .len = omega arith in
+    let l : s .args .start + s .args .len ≤ s .args .used = omega arith in
+    sym (piece-in _ _ _ _ z l ∙ plain-piece _ _ _ _ l (s .pre .1 (c .if3 .taken)))
+
+returns-4 : tie.Need-returns-4
+returns-4 c =
+    let a = c .before .before .before .before .before .before .args in
     let z : 0 < a .len = omega arith in
     let l : a .start + a .len ≤ a .used = omega arith in
     rw (c .is-whole .ensures, add-sub-cancel-left (a .start) (a .len)) (sym (piece-in _ _ _ _ z l))
@@ -49,10 +57,11 @@ piece-ok-spec =
     returns
     add-if2
     returns-2
+    returns-3
     add-e
     mul-is-whole
     sub-is-whole
     part-is-whole-start
     part-is-whole-end
     is-whole-requires
-    returns-3)
+    returns-4)

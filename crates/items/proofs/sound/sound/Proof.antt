@@ -1,150 +1,47 @@
--- `items::sound::sound` meets its contract. The invariant: what is left of the test here is the whole test. Assumes nothing.
+-- `items::sound::sound` meets its contract. Assumes nothing.
 use Prim.Native.Nat.{_≤_}
 use native.Mathlib.Omega.{arith}
-use mathlib.Core.Path.{_≡_, refl, sym, _∙_}
+use mathlib.Core.Path.{sym, _∙_}
 use borrow.Author.Needs.{needs}
-use borrow.Author.Tests.{not-true, not-false, ne-eqb, eq-eqb}
+use borrow.Author.Tests.{eqb-true}
 use denote.Ref.{now}
-use lib.ListN.{getD}
-use mathlib.Core.Bool.{true}
-use Rattle.units.proofs.Halves.{and-no-left}
-use Rattle.items.specs.Chain.{END, itemAt}
-use Rattle.items.specs.Memory.{lenOf, wordOk, soundOf}
-use Rattle.items.proofs.Soundness.{restOk, sound-short, sound-narrow, sound-many, sound-long, sound-rest, rest-out, rest-bad, rest-over, rest-step, rest-end, word-parts, ok-len}
+use lib.ListN.{length}
+use lib.Seq.{length-take-le}
+use Rattle.items.proofs.Soundness.{sound-short, sound-narrow, sound-many, sound-long}
 use Rattle.items.proofs.sound.sound.Statement.{statement}
 use Rattle.items.proofs.sound.sound.Tie as tie
 
-abbrev Inv-loop : tie.InvT-loop
-Inv-loop items units n used at₀ k₀ sum₀ at k sum = (k ≤ n) × (sum ≤ used) × (restOk n used items units k at sum ≡ restOk n used items units n at₀ 0)
-
-abbrev μ-loop : tie.MeasureT-loop
-μ-loop items units n used at₀ k₀ sum₀ at k sum = k
-
--- at each turn: what is left, and of the item that is met, that its word is in order, and its length
-whole-is : (c : tie.At-loop Inv-loop μ-loop) → (
-    let a = c .before .before .before .before .before .before .before .args in
-    soundOf (a .h) (now (a .items)) (now (a .units)) ≡ restOk (a .h .items) (a .h .units) (now (a .items)) (now (a .units)) (c .loop .k) (c .loop .at) (c .loop .sum)
-    )
-whole-is c = sound-rest _ _ _ (omega arith) (omega arith) (omega arith) (omega arith) ∙ sym (c .loop .inv .2)
-
-word-is : (c : tie.After-text-len Inv-loop μ-loop) → (
-    let a = c .before .before .before .before .before .before .before .before .before .before .before .before .before .before .args in
-    wordOk (now (a .units)) (a .h .units) (getD (now (a .items)) (c .before .before .before .before .before .before .before .loop .at) 0) ≡ true
-    )
-word-is c = sym (c .before .before .before .word-ok .ensures) ∙ not-false _ (c .before .before .if6 .left)
-
-len-is : (c : tie.After-text-len Inv-loop μ-loop) → (
-    let a = c .before .before .before .before .before .before .before .before .before .before .before .before .before .before .args in
-    (c .text-len .result ≡ lenOf (itemAt (now (a .items)) (c .before .before .before .before .before .before .before .loop .at) .what)) × (c .text-len .result ≤ a .h .units)
-    )
-len-is c =
-    let e = rw (c .before .unpack .ensures) at (c .text-len .ensures) in
-    let l = ok-len _ _ _ (word-parts _ _ _ (word-is c) .2) in
-    (e, omega (arith, e, l))
-
-returns : tie.Need-returns Inv-loop μ-loop
+returns : tie.Need-returns
 returns c = sym (sound-short _ _ _ (c .if1 .taken))
 
-returns-2 : tie.Need-returns-2 Inv-loop μ-loop
+returns-2 : tie.Need-returns-2
 returns-2 c = sym (sound-narrow _ _ _ (c .if2 .taken))
 
-returns-3 : tie.Need-returns-3 Inv-loop μ-loop
+returns-3 : tie.Need-returns-3
 returns-3 c = sym (sound-many _ _ _ (c .if3 .taken))
 
-returns-4 : tie.Need-returns-4 Inv-loop μ-loop
+returns-4 : tie.Need-returns-4
 returns-4 c = sym (sound-long _ _ _ (c .if4 .taken))
 
-loop-holds : tie.Need-loop-holds Inv-loop μ-loop
-loop-holds c = (omega arith, omega arith, refl)
+cast-used : tie.Need-cast-used
+cast-used c = search needs
 
-returns-5 : tie.Need-returns-5 Inv-loop μ-loop
-returns-5 c =
-    let at-loop = c .before .before in
-    sym (whole-is at-loop ∙ rest-out _ _ _ _ _ _ _ (omega arith) (omega arith))
+slice-aggregate-is-plain : tie.Need-slice-aggregate-is-plain
+slice-aggregate-is-plain c =
+    let a = c .before .before .before .before .before .before .before .before .before .before .args in
+    let fits : a .h .units ≤ length (now (a .units)) = omega arith in
+    sym (length-take-le (a .h .units) (now (a .units)) fits)
 
-cast-i : tie.Need-cast-i Inv-loop μ-loop
-cast-i c = omega arith
+is-plain-requires : tie.Need-is-plain-requires
+is-plain-requires c κs = search needs
 
-mul-w : tie.Need-mul-w Inv-loop μ-loop
-mul-w c = omega arith
+walk-ok-requires : tie.Need-walk-ok-requires
+walk-ok-requires c κs =
+    (record { words = omega arith; room = omega arith; items = omega arith; used = omega arith }, λ p. eqb-true _ _ (sym (c .is-plain .ensures) ∙ p))
 
-shared-slice-read-w : tie.Need-shared-slice-read-w Inv-loop μ-loop
-shared-slice-read-w c = omega arith
-
-word-ok-requires : tie.Need-word-ok-requires Inv-loop μ-loop
-word-ok-requires c κs = omega arith
-
-returns-6 : tie.Need-returns-6 Inv-loop μ-loop
-returns-6 c =
-    let at-loop = c .before .before .before .before .before in
-    sym (whole-is at-loop ∙ rest-bad _ _ _ _ _ _ _ (omega arith) (sym (c .before .word-ok .ensures) ∙ not-true _ (c .if6 .taken)))
-
-unpack-requires : tie.Need-unpack-requires Inv-loop μ-loop
-unpack-requires c κs = search needs
-
-text-len-requires : tie.Need-text-len-requires Inv-loop μ-loop
-text-len-requires c κs = search needs
-
-add-sum : tie.Need-add-sum Inv-loop μ-loop
-add-sum c = omega (arith, len-is c .1)
-
-returns-7 : tie.Need-returns-7 Inv-loop μ-loop
-returns-7 c =
-    let at-loop = c .before .before .before .before .before .before .before .before in
-    let l = len-is (c .before) .0 in
-    sym (whole-is at-loop ∙ rest-over _ _ _ _ _ _ _ (omega arith) (rw l at (c .if7 .taken)))
-
-sub-k : tie.Need-sub-k Inv-loop μ-loop
-sub-k c = omega arith
-
-loop-less : tie.Need-loop-less Inv-loop μ-loop
-loop-less c = omega arith
-
-loop-again : tie.Need-loop-again Inv-loop μ-loop
-loop-again c =
-    let at-loop = c .before .before .before .before .before .before .before .before in
-    let a = at-loop .before .before .before .before .before .before .before .args in (
-      omega arith,
-      omega arith,
-      rw (len-is (c .before) .0, c .before .before .unpack .ensures) (
-          sym (rest-step (a .h .items) _ _ _ (at-loop .loop .k) (at-loop .loop .at) (at-loop .loop .sum) (omega arith) (omega arith) (word-is (c .before))) ∙ at-loop .loop .inv .2
-          ),
-    )
-
-returns-8 : tie.Need-returns-8 Inv-loop μ-loop
-returns-8 c =
-    let at-loop = c .before .before in
-    sym (whole-is at-loop ∙ rest-end _ _ _ _ _ _ _ (c .before .loop-test .left) ∙ and-no-left _ _ (ne-eqb _ _ (c .if8 .taken)))
-
-returns-9 : tie.Need-returns-9 Inv-loop μ-loop
-returns-9 c =
-    let at-loop = c .before .before in
-    let e = eq-eqb (at-loop .loop .at) END (omega arith) in
-    sym (whole-is at-loop ∙ rest-end _ _ _ _ _ _ _ (c .before .loop-test .left) ∙ rw e)
+returns-5 : tie.Need-returns-5
+returns-5 c = c .walk-ok .ensures
 
 pub sound-spec : {M : Type 1} → statement M
 sound-spec =
-    tie.close
-    (tie.spec
-    Inv-loop
-    μ-loop
-    returns
-    returns-2
-    returns-3
-    returns-4
-    loop-holds
-    returns-5
-    cast-i
-    mul-w
-    shared-slice-read-w
-    word-ok-requires
-    returns-6
-    unpack-requires
-    text-len-requires
-    add-sum
-    returns-7
-    sub-k
-    loop-less
-    loop-again
-    returns-8
-    returns-9)
+    tie.close (tie.spec returns returns-2 returns-3 returns-4 cast-used slice-aggregate-is-plain is-plain-requires walk-ok-requires returns-5)

@@ -27,8 +27,8 @@ returns-2 c =
     let a = e .before .before .before .before in
     fault-zero (text a) (a .args .index) (a .args .n) _ (e .before .range-fault .ensures) (e .if1 .left) (c .if2 .taken)
 
-len-requires : tie.Need-len-requires
-len-requires c κs = search needs
+visible-len-requires : tie.Need-visible-len-requires
+visible-len-requires c κs = (_, c .before .before .before .before .before .pre)
 
 add-if3 : tie.Need-add-if3
 add-if3 c = search needs
@@ -41,14 +41,14 @@ returns-3 c =
     let some = c .before .before in
     let e = some .before in
     let a = e .before .before .before .before in
-    let long = length-is _ _ _ (a .pre) _ (c .before .len .ensures) in
+    let long = length-is (a .args .h) (now (a .args .items)) (now (a .args .units)) _ (c .before .visible-len .ensures) in
     fault-short (text a) (a .args .index) (a .args .n) _ (e .before .range-fault .ensures) (e .if1 .left) (omega (arith, some .if2 .left)) (omega (arith, long, c .if3 .taken))
 
 returns-4 : tie.Need-returns-4
 returns-4 c =
     let e = c .before .before .before in
     let a = e .before .before .before .before in
-    let long = length-is _ _ _ (a .pre) _ (c .before .len .ensures) in
+    let long = length-is (a .args .h) (now (a .args .items)) (now (a .args .units)) _ (c .before .visible-len .ensures) in
     fault-none (text a) (a .args .index) (a .args .n) _ (e .before .range-fault .ensures) (e .if1 .left) (omega (arith, long, c .if3 .left))
 
 pub removal-fault-spec : {M : Type 1} → statement M
@@ -58,7 +58,7 @@ removal-fault-spec =
     range-fault-requires
     returns
     returns-2
-    len-requires
+    visible-len-requires
     add-if3
     cast-if3
     returns-3

@@ -1,0 +1,43 @@
+-- Text without a half of a pair: each part of it is whole.
+use Prim.Native.Nat.{ℕ, zero, suc, _+_, _-_, _≤_, _<_}
+use native.Mathlib.Omega.{arith}
+use native.Mathlib.Numerals.{add-one}
+use mathlib.Core.Path.{_≡_, refl, sym, ap, _∙_}
+use mathlib.Core.Bool.{Bool, true, false, not, _&&_}
+use mathlib.Core.List.{List, [], _∷_}
+use lib.ListN.{length, getD, take, drop, drop-of-length-le}
+use lib.Seq.{drop-cons, take-take}
+use Rattle.units.specs.Surrogates.{isHigh, isLow, pairedFrom, paired, halfOf, halves}
+use Rattle.units.proofs.Halves.{half-none}
+use Rattle.units.proofs.Pairing.{drop-take}
+
+-- ---- counted from an index on
+pub halves-at : (us : List ℕ) (i : ℕ) → i < length us → halves (drop i us) ≡ halfOf (getD us i 0) + halves (drop (i + 1) us)
+halves-at us i h = ap halves (drop-cons us i 0 h) ∙ ap (λ (k : ℕ). halfOf (getD us i 0) + halves (drop k us)) (sym (add-one i))
+
+pub halves-end : (us : List ℕ) (i : ℕ) → length us ≤ i → halves (drop i us) ≡ 0
+halves-end us i h = ap halves (drop-of-length-le us {i = i} h)
+
+-- ---- parts
+halves-drop : (us : List ℕ) (s : ℕ) → halves us ≡ 0 → halves (drop s us) ≡ 0
+halves-drop us zero e = e
+halves-drop [] (suc s) e = refl
+halves-drop (u ∷ us) (suc s) e = halves-drop us s (omega (arith, e))
+
+halves-take : (us : List ℕ) (n : ℕ) → halves us ≡ 0 → halves (take n us) ≡ 0
+halves-take us zero e = refl
+halves-take [] (suc n) e = refl
+halves-take (u ∷ us) (suc n) e = omega (arith, e, halves-take us n (omega (arith, e)))
+
+plain-whole : (us : List ℕ) → halves us ≡ 0 → paired us ≡ true
+plain-whole [] e = refl
+plain-whole (u ∷ us) e =
+    let none : (isHigh u ≡ false) × (isLow u ≡ false) = half-none u (omega (arith, e)) in
+    ap (λ (b : Bool). not b && pairedFrom (isHigh u) us) (none .1) ∙ ap (λ (b : Bool). pairedFrom b us) (none .0) ∙ plain-whole us (omega (arith, e))
+
+plain-part : (us : List ℕ) (s n : ℕ) → halves us ≡ 0 → paired (take n (drop s us)) ≡ true
+plain-part us s n e = plain-whole (take n (drop s us)) (halves-take (drop s us) n (halves-drop us s e))
+
+pub plain-piece : (us : List ℕ) (m s n : ℕ) → s + n ≤ m → halves (take m us) ≡ 0 → paired (take n (drop s us)) ≡ true
+plain-piece us m s n l e =
+    ap paired (sym (ap (take n) (drop-take s m us (omega arith)) ∙ take-take n (m - s) (drop s us) (omega arith))) ∙ plain-part (take m us) s n e
