@@ -206,7 +206,9 @@ impl Sheet {
 
     /// The units seen in a range, an embed as 0.
     pub fn units_of(&self, index: u32, len: u32) -> Result<Vec<u16>, Refusal> {
-        let mut out = vec![0; len.min(self.len()?) as usize];
+        // What is seen is units in use and embeds.
+        let most = self.head[1].min(ITEMS as u32) + self.head[2].min(UNITS as u32);
+        let mut out = vec![0; len.min(most) as usize];
         let mut count = 0;
         Refusal::check(unsafe {
             sys::indovalump_text(
