@@ -1,9 +1,10 @@
 //! Random scripts through the archive's calls and through the crate's own functions: the length, the joined runs, the runs and the
 //! event have to be the same after every call. `compare [SEED [SCRIPTS]]`
 //!
-//! Only calls that are not refused, no removal of length 0, no empty insertion in a delta, and nothing behind a Deleted.
+//! Only calls that are not refused, no removal of length 0, no empty insertion in a delta, and nothing behind a Deleted, but on
+//! sheets without attributes.
 use bench::{event_back, join, our_set, runs_back, their_delta, Dice};
-use indovalump::{Op, Sheet};
+use indovalump::{Content, Op, Sheet};
 use yrs_text::{attrs_of, Doc};
 
 const TEXTS: [&str; 6] = ["a", "bc", "d\u{1F600}e", "é", "xyz", "\u{10FFFF}"];
@@ -26,6 +27,9 @@ fn place(d: &mut Dice, seen: &[u16], from: usize) -> usize {
 
 impl Pair {
     fn set(&self, d: &mut Dice) -> Vec<(u32, u32)> {
+        if self.keys == 0 {
+            return Vec::new();
+        }
         let mut pairs: Vec<(u32, u32)> = (0..d.roll(3)).map(|_| (d.roll(self.keys) as u32, d.roll(4) as u32)).collect();
         pairs.sort();
         pairs.dedup_by_key(|p| p.0);
@@ -69,10 +73,16 @@ impl Pair {
                 self.ours.remove_range(index, len)
             }
             10 => {
-                let (new, kept) = (our_set(&self.set(d)), our_set(&self.set(d)));
-                let mut ops = vec![Op::Retain(index, kept), Op::text(text, new)];
-                if len > 0 {
+                let mut ops = vec![Op::Retain(index, a), Op::text(text, our_set(&self.set(d)))];
+                if self.keys > 0 {
+                    ops.push(Op::Retain(len, our_set(&self.set(d))));
+                } else if len > 0 {
                     ops.push(Op::Deleted(len));
+                }
+                ops.push(Op::Inserted(Content::Embed(79), our_set(&self.set(d))));
+                let last = (place(d, &seen, e) - e) as u32;
+                if last > 0 {
+                    ops.push(Op::Deleted(last));
                 }
                 self.theirs.apply(their_delta(&ops));
                 self.ours.apply_delta(&ops)
@@ -103,7 +113,7 @@ fn main() {
     for s in 0..scripts {
         let mut d = Dice(seed.wrapping_mul(0x9E37_79B9_7F4A_7C15).wrapping_add(s) | 1);
         d.roll(2);
-        let keys = [1, 1, 3, 16][d.roll(4) as usize];
+        let keys = [0, 1, 1, 3, 16][d.roll(5) as usize];
         let mut p = Pair { ours: Sheet::new(), theirs: Doc::new(), keys, script: Vec::new() };
         for _ in 0..10 + d.roll(60) {
             p.call(&mut d);

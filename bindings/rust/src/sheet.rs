@@ -91,8 +91,14 @@ impl Sheet {
     pub fn insert_units(&mut self, index: u32, text: &[u16]) -> Result<(), Refusal> {
         Refusal::check(unsafe {
             sys::indovalump_insert(
-                &mut self.head, self.items.as_mut_ptr(), self.items.len(), self.units.as_mut_ptr(), self.units.len(),
-                index, text.as_ptr(), text.len(),
+                &mut self.head,
+                self.items.as_mut_ptr(),
+                self.items.len(),
+                self.units.as_mut_ptr(),
+                self.units.len(),
+                index,
+                text.as_ptr(),
+                text.len(),
             )
         })
     }
@@ -116,8 +122,16 @@ impl Sheet {
     pub fn insert_units_with_attributes(&mut self, index: u32, text: &[u16], attrs: &Attrs) -> Result<(), Refusal> {
         Refusal::check(unsafe {
             sys::indovalump_insert_with_attributes(
-                &mut self.head, self.items.as_mut_ptr(), self.items.len(), self.units.as_mut_ptr(), self.units.len(),
-                index, text.as_ptr(), text.len(), attrs.mask, &attrs.values,
+                &mut self.head,
+                self.items.as_mut_ptr(),
+                self.items.len(),
+                self.units.as_mut_ptr(),
+                self.units.len(),
+                index,
+                text.as_ptr(),
+                text.len(),
+                attrs.mask,
+                &attrs.values,
             )
         })
     }
@@ -126,7 +140,13 @@ impl Sheet {
     pub fn insert_embed(&mut self, index: u32, number: u32) -> Result<(), Refusal> {
         Refusal::check(unsafe {
             sys::indovalump_insert_embed(
-                &mut self.head, self.items.as_mut_ptr(), self.items.len(), self.units.as_ptr(), self.units.len(), index, number,
+                &mut self.head,
+                self.items.as_mut_ptr(),
+                self.items.len(),
+                self.units.as_ptr(),
+                self.units.len(),
+                index,
+                number,
             )
         })
     }
@@ -135,8 +155,15 @@ impl Sheet {
     pub fn insert_embed_with_attributes(&mut self, index: u32, number: u32, attrs: &Attrs) -> Result<(), Refusal> {
         Refusal::check(unsafe {
             sys::indovalump_insert_embed_with_attributes(
-                &mut self.head, self.items.as_mut_ptr(), self.items.len(), self.units.as_ptr(), self.units.len(),
-                index, number, attrs.mask, &attrs.values,
+                &mut self.head,
+                self.items.as_mut_ptr(),
+                self.items.len(),
+                self.units.as_ptr(),
+                self.units.len(),
+                index,
+                number,
+                attrs.mask,
+                &attrs.values,
             )
         })
     }
@@ -145,8 +172,15 @@ impl Sheet {
     pub fn format(&mut self, index: u32, len: u32, attrs: &Attrs) -> Result<(), Refusal> {
         Refusal::check(unsafe {
             sys::indovalump_format(
-                &mut self.head, self.items.as_mut_ptr(), self.items.len(), self.units.as_ptr(), self.units.len(),
-                index, len, attrs.mask, &attrs.values,
+                &mut self.head,
+                self.items.as_mut_ptr(),
+                self.items.len(),
+                self.units.as_ptr(),
+                self.units.len(),
+                index,
+                len,
+                attrs.mask,
+                &attrs.values,
             )
         })
     }
@@ -155,7 +189,13 @@ impl Sheet {
     pub fn remove_range(&mut self, index: u32, len: u32) -> Result<(), Refusal> {
         Refusal::check(unsafe {
             sys::indovalump_remove_range(
-                &mut self.head, self.items.as_mut_ptr(), self.items.len(), self.units.as_ptr(), self.units.len(), index, len,
+                &mut self.head,
+                self.items.as_mut_ptr(),
+                self.items.len(),
+                self.units.as_ptr(),
+                self.units.len(),
+                index,
+                len,
             )
         })
     }
@@ -183,9 +223,19 @@ impl Sheet {
     pub fn apply_words(&mut self, ops: &[u32], text: &[u16]) -> Result<(), Refusal> {
         Refusal::check(unsafe {
             sys::indovalump_apply_delta(
-                &mut self.head, self.items.as_mut_ptr(), self.items.len(), self.units.as_mut_ptr(), self.units.len(),
-                ops.as_ptr(), ops.len(), text.as_ptr(), text.len(),
-                SCRATCH_ITEMS.as_ptr(), ITEMS, SCRATCH_UNITS.as_ptr(), UNITS,
+                &mut self.head,
+                self.items.as_mut_ptr(),
+                self.items.len(),
+                self.units.as_mut_ptr(),
+                self.units.len(),
+                ops.as_ptr(),
+                ops.len(),
+                text.as_ptr(),
+                text.len(),
+                SCRATCH_ITEMS.as_ptr(),
+                ITEMS,
+                SCRATCH_UNITS.as_ptr(),
+                UNITS,
             )
         })
     }
@@ -212,8 +262,16 @@ impl Sheet {
         let mut count = 0;
         Refusal::check(unsafe {
             sys::indovalump_text(
-                &self.head, self.items.as_ptr(), self.items.len(), self.units.as_ptr(), self.units.len(),
-                index, len, out.as_mut_ptr(), out.len(), &mut count,
+                &self.head,
+                self.items.as_ptr(),
+                self.items.len(),
+                self.units.as_ptr(),
+                self.units.len(),
+                index,
+                len,
+                out.as_mut_ptr(),
+                out.len(),
+                &mut count,
             )
         })?;
         out.truncate(count);
@@ -226,8 +284,15 @@ impl Sheet {
         let mut count = 0;
         Refusal::check(unsafe {
             sys::indovalump_runs(
-                &self.head, self.items.as_ptr(), self.items.len(), self.units.as_ptr(), self.units.len(),
-                joined, ops.as_mut_ptr(), ops.len(), &mut count,
+                &self.head,
+                self.items.as_ptr(),
+                self.items.len(),
+                self.units.as_ptr(),
+                self.units.len(),
+                joined,
+                ops.as_mut_ptr(),
+                ops.len(),
+                &mut count,
             )
         })?;
         ops.truncate(count * 8);
@@ -261,7 +326,14 @@ impl Sheet {
         let mut w = [0; 8];
         Refusal::check(unsafe {
             sys::indovalump_run_at(
-                &self.head, self.items.as_ptr(), self.items.len(), self.units.as_ptr(), self.units.len(), joined, n, &mut w,
+                &self.head,
+                self.items.as_ptr(),
+                self.items.len(),
+                self.units.as_ptr(),
+                self.units.len(),
+                joined,
+                n,
+                &mut w,
             )
         })?;
         if w[0] != 1 {
@@ -276,7 +348,13 @@ impl Sheet {
         let mut count = 0;
         Refusal::check(unsafe {
             sys::indovalump_count_runs(
-                &self.head, self.items.as_ptr(), self.items.len(), self.units.as_ptr(), self.units.len(), joined, &mut count,
+                &self.head,
+                self.items.as_ptr(),
+                self.items.len(),
+                self.units.as_ptr(),
+                self.units.len(),
+                joined,
+                &mut count,
             )
         })?;
         Ok(count)
@@ -301,8 +379,16 @@ impl Sheet {
         let mut counts = [0; 2];
         Refusal::check(unsafe {
             sys::indovalump_event(
-                &self.head, self.items.as_ptr(), self.items.len(), self.units.as_ptr(), self.units.len(),
-                ops.as_mut_ptr(), ops.len(), texts.as_mut_ptr(), texts.len(), &mut counts,
+                &self.head,
+                self.items.as_ptr(),
+                self.items.len(),
+                self.units.as_ptr(),
+                self.units.len(),
+                ops.as_mut_ptr(),
+                ops.len(),
+                texts.as_mut_ptr(),
+                texts.len(),
+                &mut counts,
             )
         })?;
         Ok(ops.chunks_exact(8).take(counts[0] as usize).filter_map(|w| Op::from_words(w, &texts)).collect())

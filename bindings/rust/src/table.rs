@@ -108,7 +108,9 @@ impl Table {
             3 => {
                 let mut out = [0; LONGEST];
                 let mut count = 0;
-                unsafe { sys::indovalump_string(&self.head, self.bytes.as_ptr(), self.bytes.len(), v, out.as_mut_ptr(), out.len(), &mut count) };
+                unsafe {
+                    sys::indovalump_string(&self.head, self.bytes.as_ptr(), self.bytes.len(), v, out.as_mut_ptr(), out.len(), &mut count)
+                };
                 Some(Value::String(String::from_utf8_lossy(&out[..count]).into_owned()))
             }
             _ => None,

@@ -86,7 +86,11 @@ fn damaged_sheets() {
                     Err(r) => {
                         assert!(s == before, "a refused call changed something");
                         assert_eq!(r == Refusal::Broken, !sound);
-                        if sound { refused += 1 } else { broken += 1 }
+                        if sound {
+                            refused += 1
+                        } else {
+                            broken += 1
+                        }
                     }
                     Ok(()) => {
                         assert!(sound && s.is_sound());
@@ -95,7 +99,14 @@ fn damaged_sheets() {
                 }
             }
             let _ = s.to_string();
-            for read in [s.len().map(|_| ()), s.diff().map(|_| ()), s.joined().map(|_| ()), s.event().map(|_| ()), s.run_at(true, 1).map(|_| ()), s.units_of(0, 9).map(|_| ())] {
+            for read in [
+                s.len().map(|_| ()),
+                s.diff().map(|_| ()),
+                s.joined().map(|_| ()),
+                s.event().map(|_| ()),
+                s.run_at(true, 1).map(|_| ()),
+                s.units_of(0, 9).map(|_| ()),
+            ] {
                 match read {
                     Ok(()) => assert!(sound),
                     Err(r) => assert_eq!(r == Refusal::Broken, !sound),
