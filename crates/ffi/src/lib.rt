@@ -5,4 +5,5 @@ mod heads; // what is carried by value, in lent numbers
 mod changing; // the calls that change a sheet
 mod reading; // what is read of a sheet
 mod listing; // all runs of a sheet
+mod telling; // a delta in operation numbers
 mod naming; // the table

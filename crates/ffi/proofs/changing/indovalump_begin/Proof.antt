@@ -1,4 +1,7 @@
 -- `ffi::changing::indovalump_begin` meets its contract. Assumes nothing.
+use mathlib.Core.Path.{sym}
+use Rattle.ffi.proofs.Lefts.{left-is}
+-- `ffi::changing::indovalump_begin` meets its contract. Assumes nothing.
 use mathlib.Core.Path.{sym, _∙_}
 use borrow.Author.Needs.{needs}
 use Rattle.ffi.proofs.changing.indovalump_begin.Statement.{statement}
