@@ -15,7 +15,7 @@ use Rattle.ops.specs.Ops.{opOf}
 use Rattle.deltas.specs.Turns.{brings, bringing}
 use Rattle.deltas.specs.Checks.{pastEnd, anyPast}
 use Rattle.deltas.specs.Texts.{unitsOf, appended}
-use Rattle.deltas.proofs.Refusals.{left-false}
+use Rattle.deltas.proofs.Refusals.{parts-next}
 use Rattle.deltas.proofs.Laid.{units-long, new-cons}
 
 -- ---- once
@@ -62,12 +62,8 @@ putting-start t ds at u l r p = record { long = l; room = r; parts = p; rest = r
 
 module _ {t : List ℕ} {ds : List DeltaOp} {goal : List ℕ} {i at : ℕ} {u : List ℕ} (o : Putting t ds goal i at u) where
   module _ (d : DeltaOp) (is : drop i ds ≡ d ∷ drop (suc i) ds) where
-    both : (pastEnd (length t) (d .op) ≡ false) × (anyPast (length t) (drop (suc i) ds) ≡ false)
-    unfolding anyPast
-    both = left-false (pastEnd (length t) (d .op)) _ (sym (ap (anyPast (length t)) is) ∙ o .parts)
-
     pub put-part : pastEnd (length t) (d .op) ≡ false
-    put-part = both .0
+    put-part = parts-next (length t) d is (o .parts) .0
 
     pub put-room : at + brings (d .op) + bringing (drop (suc i) ds) ≤ 16384
     unfolding bringing
@@ -87,7 +83,7 @@ module _ {t : List ℕ} {ds : List DeltaOp} {goal : List ℕ} {i at : ℕ} {u : 
         (record {
           long = appended-length u (unitsOf t (d .op)) at (brings (d .op)) (omega (arith, put-room, o .long)) (units-long t (d .op) put-part) (omega (arith, put-room, o .long)) ∙ o .long;
           room = put-room;
-          parts = both .1;
+          parts = parts-next (length t) d is (o .parts) .1;
           rest = put-rest;
         })
 

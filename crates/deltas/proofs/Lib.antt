@@ -5,3 +5,4 @@ pub mod Refusals
 pub mod Laid
 pub mod Appending
 pub mod Applying
+pub mod Theorems

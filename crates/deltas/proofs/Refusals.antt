@@ -98,14 +98,15 @@ pub left-false : (a b : Bool) → (a || b) ≡ false → (a ≡ false) × (b ≡
 left-false true b e = (e, absurd (true-not-false e))
 left-false false b e = (refl, e)
 
+-- the next operation's part is not past the end, and no later one
+pub parts-next : (n : ℕ) {l ds : List DeltaOp} (d : DeltaOp) → l ≡ d ∷ ds → anyPast n l ≡ false → (pastEnd n (d .op) ≡ false) × (anyPast n ds ≡ false)
+unfolding anyPast
+parts-next n d is e = left-false (pastEnd n (d .op)) _ (sym (ap (anyPast n) is) ∙ e)
+
 module _ {us t : List ℕ} {ds : List DeltaOp} {i c : ℕ} (f : Faultless us t ds i c) where
   module _ (d : DeltaOp) (is : drop i ds ≡ d ∷ drop (suc i) ds) where
-    both : (pastEnd (length t) (d .op) ≡ false) × (anyPast (length t) (drop (suc i) ds) ≡ false)
-    unfolding anyPast
-    both = left-false (pastEnd (length t) (d .op)) _ (sym (ap (anyPast (length t)) is) ∙ f .parts)
-
     pub next-part : pastEnd (length t) (d .op) ≡ false
-    next-part = both .0
+    next-part = parts-next (length t) d is (f .parts) .0
 
     same : check us c (opOf t d ∷ map (opOf t) (drop (suc i) ds)) ≡ check us 0 (map (opOf t) ds)
     same = ap (λ (l : List DeltaOp). check us c (map (opOf t) l)) (sym is) ∙ f .rest
@@ -120,7 +121,7 @@ module _ {us t : List ℕ} {ds : List DeltaOp} {i c : ℕ} (f : Faultless us t d
         subst (λ (k : ℕ). Faultless us t ds k c₁) (sym (add-one i))
         (record {
           place = omega (arith, ec, after-le (length us) c (d .op) (f .place));
-          parts = both .1;
+          parts = parts-next (length t) d is (f .parts) .1;
           rest =
               ap (λ (k : ℕ). check us k (map (opOf t) (drop (suc i) ds))) (ec ∙ sym (after-is us t c (says (d .attrs)) (d .op)))
               ∙ sym (check-on us c (opOf t d) (map (opOf t) (drop (suc i) ds)) (fault-is us t c (says (d .attrs)) (d .op) ∙ sym e ∙ none))

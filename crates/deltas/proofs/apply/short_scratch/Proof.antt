@@ -1,4 +1,7 @@
 -- `deltas::apply::short_scratch` meets its contract. Assumes nothing.
+use native.Mathlib.Omega.{arith}
+use lib.ListN.{length}
+use denote.Ref.{now}
 use borrow.Author.Tests.{lt-ltb, le-ltb}
 use borrow.Author.Needs.{needs}
 use Rattle.deltas.proofs.apply.short_scratch.Statement.{statement}
@@ -8,7 +11,7 @@ cast-if1 : tie.Need-cast-if1
 cast-if1 c = search needs
 
 returns : tie.Need-returns
-returns c = rw (lt-ltb _ 2048 (c .if1 .taken))
+returns c = rw (lt-ltb (length (now (c .before .args .items))) 2048 (omega (arith, c .if1 .taken)))
 
 cast-result : tie.Need-cast-result
 cast-result c = search needs
