@@ -48,8 +48,5 @@ pub fn delta_line(
     }
     let head = s.head;
     let n = asked.count;
-    State {
-        head: applied(head, asked, &text[..n], items, units),
-        touched: true,
-    }
+    State::with(applied(head, asked, &text[..n], items, units), s.names)
 }

@@ -3,6 +3,7 @@ use crate::answer::last;
 use crate::answer::query;
 use crate::answer::show;
 use crate::delta::delta_line;
+use crate::names::entry_line;
 use crate::say::say;
 use crate::say::say_no_call;
 use crate::say::say_refused;
@@ -58,17 +59,14 @@ fn edited(h: Head, asked: Asked, chunk: &[u16], items: &mut [u64], units: &mut [
     told(carried(h, call, set, chunk, items, units))
 }
 
-// A fresh sheet, where there was a call on the old one.
+// A fresh sheet and table, where a call was made.
 fn fresh(s: State, items: &[u64], units: &[u16]) -> State {
     if !s.touched {
         return s;
     }
     last(s.head, items, units);
     say(b"new\n");
-    State {
-        head: Head::fresh(),
-        touched: false,
-    }
+    State::fresh()
 }
 
 pub fn run_line(
@@ -78,11 +76,13 @@ pub fn run_line(
     text: &mut [u16],
     items: &mut [u64],
     units: &mut [u16],
+    table: &mut [u8],
 ) -> State {
     let asked = read_call(line, text);
     let call = asked.call;
     let n = asked.count;
     let head = s.head;
+    let names = s.names;
     match call {
         Call::Nothing => s,
         Call::Fresh => fresh(s, items, units),
@@ -91,23 +91,15 @@ pub fn run_line(
             s
         }
         Call::Delta => delta_line(s, line, number, items, units),
+        Call::Entry => State::with(head, entry_line(names, line, number, table)),
         Call::Query => {
             query(head, items, units);
-            State {
-                head,
-                touched: true,
-            }
+            State::with(head, names)
         }
         Call::Show => {
             show(head, items, units);
-            State {
-                head,
-                touched: true,
-            }
+            State::with(head, names)
         }
-        _ => State {
-            head: edited(head, asked, &text[..n], items, units),
-            touched: true,
-        },
+        _ => State::with(edited(head, asked, &text[..n], items, units), names),
     }
 }

@@ -2,7 +2,6 @@
 use crate::edit::run_line;
 use crate::say::say_no_call;
 use crate::state::State;
-use items::head::Head;
 use libc::STDIN_FILENO;
 use words::input::Line;
 use words::input::first_line;
@@ -29,6 +28,7 @@ fn whole(
     text: &mut [u16],
     items: &mut [u64],
     units: &mut [u16],
+    table: &mut [u8],
 ) -> Place
     requires { ⌜ Waits (now buf) (p .start) (p .end) ⌝ }
     requires { ⌜ p .start + e < p .end ⌝ }
@@ -36,10 +36,11 @@ fn whole(
 {
     let start = p.start;
     let stop = start + e;
+    let next = stop + 1;
     let old = p.state;
     if p.long {
         return Place {
-            start: stop + 1,
+            start: next,
             end: p.end,
             line: p.line,
             long: false,
@@ -48,9 +49,9 @@ fn whole(
         };
     }
     let line = std::num::wrapping_add_u64(p.line, 1);
-    let state = run_line(old, &buf[start..stop], line, text, items, units);
+    let state = run_line(old, &buf[start..stop], line, text, items, units, table);
     Place {
-        start: stop + 1,
+        start: next,
         end: p.end,
         line,
         long: false,
@@ -104,7 +105,14 @@ fn part(p: Place, buf: &mut [u8]) -> Place
     refilled(p, buf, n, p.line, false)
 }
 
-fn step(p: Place, buf: &mut [u8], text: &mut [u16], items: &mut [u64], units: &mut [u16]) -> Place
+fn step(
+    p: Place,
+    buf: &mut [u8],
+    text: &mut [u16],
+    items: &mut [u64],
+    units: &mut [u16],
+    table: &mut [u8],
+) -> Place
     requires { ⌜ Waits (now buf) (p .start) (p .end) ⌝ }
     ensures { λ r. ⌜ Waits (now (buf .exit)) (r .start) (r .end) ⌝ }
 {
@@ -112,13 +120,20 @@ fn step(p: Place, buf: &mut [u8], text: &mut [u16], items: &mut [u64], units: &m
     let end = p.end;
     let found = first_line(buf, start, end);
     match found {
-        Line::Whole(e) => whole(p, e, buf, text, items, units),
+        Line::Whole(e) => whole(p, e, buf, text, items, units, table),
         Line::Part => part(p, buf),
     }
 }
 
 // What waits at the end of the input is a line too.
-fn rest(p: Place, buf: &[u8], text: &mut [u16], items: &mut [u64], units: &mut [u16]) -> State
+fn rest(
+    p: Place,
+    buf: &[u8],
+    text: &mut [u16],
+    items: &mut [u64],
+    units: &mut [u16],
+    table: &mut [u8],
+) -> State
     requires { ⌜ Waits (now buf) (p .start) (p .end) ⌝ }
 {
     let start = p.start;
@@ -131,28 +146,31 @@ fn rest(p: Place, buf: &[u8], text: &mut [u16], items: &mut [u64], units: &mut [
         return state;
     }
     let line = std::num::wrapping_add_u64(p.line, 1);
-    run_line(state, &buf[start..end], line, text, items, units)
+    run_line(state, &buf[start..end], line, text, items, units, table)
 }
 
 // A proved loop ends, and nothing says that the input does: the turns are counted down from a number that no run uses up.
-pub fn all_lines(buf: &mut [u8], text: &mut [u16], items: &mut [u64], units: &mut [u16]) -> State {
+pub fn all_lines(
+    buf: &mut [u8],
+    text: &mut [u16],
+    items: &mut [u64],
+    units: &mut [u16],
+    table: &mut [u8],
+) -> State {
     let mut p = Place {
         start: 0,
         end: 0,
         line: 0,
         long: false,
         more: true,
-        state: State {
-            head: Head::fresh(),
-            touched: false,
-        },
+        state: State::fresh(),
     };
     let mut turns = u64::MAX;
     while turns > 0 {
         if !p.more {
-            return rest(p, buf, text, items, units);
+            return rest(p, buf, text, items, units, table);
         }
-        p = step(p, buf, text, items, units);
+        p = step(p, buf, text, items, units, table);
         turns -= 1;
     }
     p.state

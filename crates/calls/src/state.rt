@@ -2,11 +2,32 @@
 use crate::say::say_refused;
 use items::calls::Answer;
 use items::head::Head;
+use table::TableHead;
 
-// The sheet's head, and whether a call was made on the sheet.
+// The heads of the sheet and of the table, and whether a call was made.
 pub struct State {
     pub head: Head,
+    pub names: TableHead,
     pub touched: bool,
+}
+
+impl State {
+    pub fn fresh() -> State {
+        State {
+            head: Head::fresh(),
+            names: TableHead::fresh(),
+            touched: false,
+        }
+    }
+
+    // After a call.
+    pub fn with(head: Head, names: TableHead) -> State {
+        State {
+            head,
+            names,
+            touched: true,
+        }
+    }
 }
 
 // The head after a call.

@@ -1,3 +1,4 @@
 pub mod Gathering
 pub mod Calling
 pub mod Operations
+pub mod Asking

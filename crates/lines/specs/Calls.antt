@@ -17,11 +17,15 @@ use Rattle.lines.specs.declared.fields.Field.{Field}
 use Rattle.lines.specs.declared.fields.Field.the-variants.{Line, Op, Word}
 use Rattle.lines.specs.declared.fields.Fields.{Fields}
 use Rattle.lines.specs.declared.calls.Call.{Call}
-use Rattle.lines.specs.declared.calls.Call.the-variants.{Nothing, Insert, InsertWith, Embed, EmbedWith, Format, Remove, Delta, Begin, Query, Show, Fresh, Wrong}
+use Rattle.lines.specs.declared.calls.Call.the-variants.{Nothing, Insert, InsertWith, Embed, EmbedWith, Format, Remove, Delta, Entry, Begin, Query, Show, Fresh, Wrong}
 use Rattle.lines.specs.declared.calls.Kind.{Kind}
-use Rattle.lines.specs.declared.calls.Kind.the-variants.{Plain, Text, Ranged, Delta as Ops, Wrong as NoKind}
+use Rattle.lines.specs.declared.calls.Kind.the-variants.{Plain, Text, Ranged, Delta as Ops, Entry as Asking, Wrong as NoKind}
 use Rattle.lines.specs.declared.calls.Asked.{Asked}
 use Rattle.lines.specs.declared.calls.Numbered.{Numbered}
+
+-- g, k, m, s, t and v ask the table of names and values.
+unfoldable pub askingOf : ℕ → Kind
+askingOf c = cond (eqb c 103 || (eqb c 107 || (eqb c 109 || (eqb c 115 || (eqb c 116 || eqb c 118))))) Asking NoKind
 
 -- b, n, p and q stand alone; i and w have an index and text; e, f, r and x two numbers; d operations.
 unfoldable pub kindOf : ℕ → Kind
@@ -29,7 +33,7 @@ kindOf c =
     cond (eqb c 98 || (eqb c 110 || (eqb c 113 || eqb c 112))) Plain
     (cond (eqb c 105 || eqb c 119) Text
     (cond (eqb c 101 || (eqb c 102 || (eqb c 114 || eqb c 120))) Ranged
-    (cond (eqb c 100) Ops NoKind)))
+    (cond (eqb c 100) Ops (askingOf c))))
 
 abbrev pub numbered : List ℕ → Found → Numbered
 numbered s w = record { number = numberOf 10 (part s (w .start) (w .end)); next = w .end }
@@ -125,6 +129,7 @@ askedBy Plain s from c units = plainAsked s from c
 askedBy Text s from c units = textAsked s from c units
 askedBy Ranged s from c units = rangedAsked s from c
 askedBy Ops s from c units = bareAsked Delta
+askedBy Asking s from c units = bareAsked Entry
 askedBy NoKind s from c units = bareAsked Wrong
 
 abbrev pub unitsBy : Kind → List ℕ → ℕ → ℕ → List ℕ → List ℕ
@@ -132,6 +137,7 @@ unitsBy Plain s from c units = units
 unitsBy Text s from c units = textUnits s from c units
 unitsBy Ranged s from c units = units
 unitsBy Ops s from c units = units
+unitsBy Asking s from c units = units
 unitsBy NoKind s from c units = units
 
 -- Nothing is asked by an empty line, or one whose first word begins with `#`.

@@ -11,7 +11,7 @@ use words::words::next_word;
 ghost use mathlib.Core.Path.{_≡_};
 ghost use Prim.Native.Nat.{_≤_};
 ghost use lib.ListN.{length};
-ghost use Rattle.lines.specs.Calls.{kindOf, NumberIs, bareAsked, askedOf, plainOf, plainAsked, textCall, TextAsked, rangedOf, marksOf, RangedAsked, CallAsked};
+ghost use Rattle.lines.specs.Calls.{askingOf, kindOf, NumberIs, bareAsked, askedOf, plainOf, plainAsked, textCall, TextAsked, rangedOf, marksOf, RangedAsked, CallAsked};
 
 pub enum Call {
     // An empty line or a comment.
@@ -24,6 +24,8 @@ pub enum Call {
     Remove { index: u32, len: u32 },
     // Its operations are read by `read_delta`.
     Delta,
+    // Asked of the table, and read by `read_entry`.
+    Entry,
     Begin,
     Query,
     Show,
@@ -46,7 +48,33 @@ pub enum Kind {
     Text,
     Ranged,
     Delta,
+    Entry,
     Wrong,
+}
+
+// Letters of the table.
+fn asking(name: u8) -> Kind
+    ensures { λ r. ⌜ r ≡ askingOf name ⌝ }
+{
+    if name == b'g' {
+        return Kind::Entry;
+    }
+    if name == b'k' {
+        return Kind::Entry;
+    }
+    if name == b'm' {
+        return Kind::Entry;
+    }
+    if name == b's' {
+        return Kind::Entry;
+    }
+    if name == b't' {
+        return Kind::Entry;
+    }
+    if name == b'v' {
+        return Kind::Entry;
+    }
+    Kind::Wrong
 }
 
 fn kind_of(name: u8) -> Kind
@@ -85,7 +113,7 @@ fn kind_of(name: u8) -> Kind
     if name == b'd' {
         return Kind::Delta;
     }
-    Kind::Wrong
+    asking(name)
 }
 
 pub struct Numbered {
@@ -257,6 +285,7 @@ pub fn read_call(s: &[u8], units: &mut [u16]) -> Asked
         Kind::Text => text_call(s, end, name, units),
         Kind::Ranged => ranged_call(s, end, name),
         Kind::Delta => Asked::bare(Call::Delta),
+        Kind::Entry => Asked::bare(Call::Entry),
         Kind::Wrong => Asked::bare(Call::Wrong),
     }
 }

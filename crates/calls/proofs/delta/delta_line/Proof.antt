@@ -28,6 +28,9 @@ slice-aggregate-applied c =
 applied-requires : tie.Need-applied-requires
 applied-requires c κs = search needs
 
+with-requires : tie.Need-with-requires
+with-requires c κs = search needs
+
 same-length : tie.Need-same-length
 same-length c = search needs
 
@@ -48,6 +51,7 @@ delta-line-spec =
     array-share-prefix-text
     slice-aggregate-applied
     applied-requires
+    with-requires
     same-length
     same-length-2
     returns-2)

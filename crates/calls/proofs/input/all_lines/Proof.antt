@@ -7,16 +7,16 @@ use lib.ListN.{length}
 use Rattle.calls.specs.Waits.{Waits}
 
 abbrev Inv-loop : tie.InvT-loop
-Inv-loop buf₀ text₀ items₀ units₀ p₀ turns₀ buf text items units p turns = Waits buf (p .start) (p .end) × (length buf ≡ length buf₀) × (length text ≡ length text₀) × (length items ≡ length items₀) × (length units ≡ length units₀)
+Inv-loop buf₀ text₀ items₀ units₀ table₀ p₀ turns₀ buf text items units table p turns = Waits buf (p .start) (p .end) × (length buf ≡ length buf₀) × (length text ≡ length text₀) × (length items ≡ length items₀) × (length units ≡ length units₀) × (length table ≡ length table₀)
 
 abbrev μ-loop : tie.MeasureT-loop
-μ-loop buf₀ text₀ items₀ units₀ p₀ turns₀ buf text items units p turns = turns
+μ-loop buf₀ text₀ items₀ units₀ table₀ p₀ turns₀ buf text items units table p turns = turns
 
 fresh-requires : tie.Need-fresh-requires Inv-loop μ-loop
 fresh-requires c κs = search needs
 
 loop-holds : tie.Need-loop-holds Inv-loop μ-loop
-loop-holds c = (record { order = omega arith; within = omega arith }, refl, refl, refl, refl)
+loop-holds c = (record { order = omega arith; within = omega arith }, refl, refl, refl, refl, refl)
 
 rest-requires : tie.Need-rest-requires Inv-loop μ-loop
 rest-requires c κs = search needs
@@ -33,6 +33,9 @@ same-length-3 c = search needs
 same-length-4 : tie.Need-same-length-4 Inv-loop μ-loop
 same-length-4 c = search needs
 
+same-length-5 : tie.Need-same-length-5 Inv-loop μ-loop
+same-length-5 c = search needs
+
 returns : tie.Need-returns Inv-loop μ-loop
 returns c = search needs
 
@@ -48,9 +51,6 @@ loop-less c = search needs
 loop-again : tie.Need-loop-again Inv-loop μ-loop
 loop-again c = search needs
 
-same-length-5 : tie.Need-same-length-5 Inv-loop μ-loop
-same-length-5 c = search needs
-
 same-length-6 : tie.Need-same-length-6 Inv-loop μ-loop
 same-length-6 c = search needs
 
@@ -59,6 +59,12 @@ same-length-7 c = search needs
 
 same-length-8 : tie.Need-same-length-8 Inv-loop μ-loop
 same-length-8 c = search needs
+
+same-length-9 : tie.Need-same-length-9 Inv-loop μ-loop
+same-length-9 c = search needs
+
+same-length-10 : tie.Need-same-length-10 Inv-loop μ-loop
+same-length-10 c = search needs
 
 returns-2 : tie.Need-returns-2 Inv-loop μ-loop
 returns-2 c = search needs
@@ -76,13 +82,15 @@ all-lines-spec =
     same-length-2
     same-length-3
     same-length-4
+    same-length-5
     returns
     step-requires
     sub-turns
     loop-less
     loop-again
-    same-length-5
     same-length-6
     same-length-7
     same-length-8
+    same-length-9
+    same-length-10
     returns-2)

@@ -12,8 +12,8 @@ enum-known-found c = search needs
 
 whole-requires : tie.Need-whole-requires
 whole-requires c κs =
-    let w = c .before .before .before .before .before .before .before .before .before .before .before .before .before .pre in
-    (w, whole-within (c .before .before .before .before .before .before .before .before .before .before .before .before .before .args .buf .now) _ _ _ (w .order) (w .within) (sym (c .before .before .before .before .before .before .before .first-line .ensures) ∙ c .before .before .before .before .before .found .given .1))
+    let w = c .before .before .before .before .before .before .before .before .before .before .before .before .before .before .before .pre in
+    (w, whole-within (c .before .before .before .before .before .before .before .before .before .before .before .before .before .before .before .args .buf .now) _ _ _ (w .order) (w .within) (sym (c .before .before .before .before .before .before .before .before .first-line .ensures) ∙ c .before .before .before .before .before .before .found .given .1))
 
 enum-told : tie.Need-enum-told
 enum-told c = search needs
@@ -33,11 +33,14 @@ same-length-3 c = search needs
 same-length-4 : tie.Need-same-length-4
 same-length-4 c = search needs
 
+same-length-5 : tie.Need-same-length-5
+same-length-5 c = search needs
+
 returns : tie.Need-returns
 returns c = search needs
 
-same-length-5 : tie.Need-same-length-5
-same-length-5 c = search needs
+same-length-6 : tie.Need-same-length-6
+same-length-6 c = search needs
 
 returns-2 : tie.Need-returns-2
 returns-2 c = search needs
@@ -55,6 +58,7 @@ step-spec =
     same-length-2
     same-length-3
     same-length-4
-    returns
     same-length-5
+    returns
+    same-length-6
     returns-2)

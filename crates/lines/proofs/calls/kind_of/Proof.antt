@@ -1,4 +1,6 @@
 use borrow.Author.Tests.{ne-eqb}
+use borrow.Author.Needs.{needs}
+use mathlib.Core.Path.{_∙_}
 use Rattle.lines.specs.Calls.{kindOf}
 use Rattle.lines.proofs.calls.kind_of.Statement.{statement}
 use Rattle.lines.proofs.calls.kind_of.Tie as tie
@@ -47,22 +49,25 @@ returns-11 : tie.Need-returns-11
 unfolding kindOf
 returns-11 c = rw (c .if11 .taken)
 
+asking-requires : tie.Need-asking-requires
+asking-requires c κs = search needs
+
 returns-12 : tie.Need-returns-12
 unfolding kindOf
 returns-12 c =
-    simp (
-      ne-eqb _ _ (c .before .before .before .before .before .before .before .before .before .before .if1 .left),
-      ne-eqb _ _ (c .before .before .before .before .before .before .before .before .before .if2 .left),
-      ne-eqb _ _ (c .before .before .before .before .before .before .before .before .if3 .left),
-      ne-eqb _ _ (c .before .before .before .before .before .before .before .if4 .left),
-      ne-eqb _ _ (c .before .before .before .before .before .before .if5 .left),
-      ne-eqb _ _ (c .before .before .before .before .before .if6 .left),
-      ne-eqb _ _ (c .before .before .before .before .if7 .left),
-      ne-eqb _ _ (c .before .before .before .if8 .left),
-      ne-eqb _ _ (c .before .before .if9 .left),
-      ne-eqb _ _ (c .before .if10 .left),
-      ne-eqb _ _ (c .if11 .left),
+    c .asking .ensures ∙ simp (
+      ne-eqb _ _ (c .before .before .before .before .before .before .before .before .before .before .before .if1 .left),
+      ne-eqb _ _ (c .before .before .before .before .before .before .before .before .before .before .if2 .left),
+      ne-eqb _ _ (c .before .before .before .before .before .before .before .before .before .if3 .left),
+      ne-eqb _ _ (c .before .before .before .before .before .before .before .before .if4 .left),
+      ne-eqb _ _ (c .before .before .before .before .before .before .before .if5 .left),
+      ne-eqb _ _ (c .before .before .before .before .before .before .if6 .left),
+      ne-eqb _ _ (c .before .before .before .before .before .if7 .left),
+      ne-eqb _ _ (c .before .before .before .before .if8 .left),
+      ne-eqb _ _ (c .before .before .before .if9 .left),
+      ne-eqb _ _ (c .before .before .if10 .left),
+      ne-eqb _ _ (c .before .if11 .left),
     )
 
 pub kind-of-spec : {M : Type 1} → statement M
-kind-of-spec = tie.close (tie.spec returns returns-2 returns-3 returns-4 returns-5 returns-6 returns-7 returns-8 returns-9 returns-10 returns-11 returns-12)
+kind-of-spec = tie.close (tie.spec returns returns-2 returns-3 returns-4 returns-5 returns-6 returns-7 returns-8 returns-9 returns-10 returns-11 asking-requires returns-12)

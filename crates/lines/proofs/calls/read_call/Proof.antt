@@ -68,6 +68,12 @@ enum-told-5 c = search needs
 bare-requires-4 : tie.Need-bare-requires-4
 bare-requires-4 c κs = search needs
 
+enum-told-6 : tie.Need-enum-told-6
+enum-told-6 c = search needs
+
+bare-requires-5 : tie.Need-bare-requires-5
+bare-requires-5 c κs = search needs
+
 returns-3 : tie.Need-returns-3
 returns-3 c = call-by (c .before .before .before .before .before .before .before .before .before .next-word .ensures) (c .before .before .before .before .before .before .before .before .before .before .before .before .args .units .now) (not-silent (c .before .before .before .before .before .before .before .before .before .next-word .ensures) (c .before .before .before .before .before .before .before .before .before .before .before .before .args .units .now) (c .before .before .before .before .before .before .before .before .if1 .left) (c .before .before .before .before .before .before .if2 .left)) (c .before .before .before .before .letter .ensures) (c .before .before .before .kind-of .ensures) _ (c .before .enum-told .given .1) (c .plain-call .ensures) refl (plain-count _ _ _ _ _ (c .plain-call .ensures))
 
@@ -85,6 +91,9 @@ returns-6 c = call-by (c .before .before .before .before .before .before .before
 
 returns-7 : tie.Need-returns-7
 returns-7 c = call-by (c .before .before .before .before .before .before .before .before .before .next-word .ensures) (c .before .before .before .before .before .before .before .before .before .before .before .before .args .units .now) (not-silent (c .before .before .before .before .before .before .before .before .before .next-word .ensures) (c .before .before .before .before .before .before .before .before .before .before .before .before .args .units .now) (c .before .before .before .before .before .before .before .before .if1 .left) (c .before .before .before .before .before .before .if2 .left)) (c .before .before .before .before .letter .ensures) (c .before .before .before .kind-of .ensures) _ (c .before .enum-told5 .given .1) (c .bare4 .ensures) refl (bare-count _ _ _ (c .bare4 .ensures))
+
+returns-8 : tie.Need-returns-8
+returns-8 c = call-by (c .before .before .before .before .before .before .before .before .before .next-word .ensures) (c .before .before .before .before .before .before .before .before .before .before .before .before .args .units .now) (not-silent (c .before .before .before .before .before .before .before .before .before .next-word .ensures) (c .before .before .before .before .before .before .before .before .before .before .before .before .args .units .now) (c .before .before .before .before .before .before .before .before .if1 .left) (c .before .before .before .before .before .before .if2 .left)) (c .before .before .before .before .letter .ensures) (c .before .before .before .kind-of .ensures) _ (c .before .enum-told6 .given .1) (c .bare5 .ensures) refl (bare-count _ _ _ (c .bare5 .ensures))
 
 pub read-call-spec : {M : Type 1} → statement M
 read-call-spec =
@@ -111,9 +120,12 @@ read-call-spec =
     bare-requires-3
     enum-told-5
     bare-requires-4
+    enum-told-6
+    bare-requires-5
     returns-3
     same-length
     returns-4
     returns-5
     returns-6
-    returns-7)
+    returns-7
+    returns-8)
