@@ -6,7 +6,7 @@ use std::hint::black_box;
 use std::time::Instant;
 use yrs_text::{attrs_of, Doc};
 
-const ROUNDS: usize = 41;
+const ROUNDS: usize = 101;
 
 /// The calls that make a sheet of about `items` items: words at the end, every third one formatted, some taken out again.
 fn made(items: usize) -> (Sheet, Doc, u32) {
