@@ -1,2 +1,3 @@
 pub mod Seams
 pub mod Falls
+pub mod Bare

@@ -26,8 +26,7 @@ fn cuts_piece(c: Content, used: &[u16], index: u32) -> bool
     }
 }
 
-// `used` are the units in use. The index is of 64 bits, so that an index and a length add up exactly.
-pub fn cuts_pair(h: Head, items: &[u64], used: &[u16], index: u64) -> bool
+fn falls_in_pair(h: Head, items: &[u64], used: &[u16], index: u64) -> bool
     requires { ⌜ Readable h (now items) (now used) ⌝ }
     ensures { λ r. ⌜ r ≡ splitsPair (visibleUnits (now (used .entry)) (listOf h (now (items .entry)))) index ⌝ }
 {
@@ -47,4 +46,16 @@ pub fn cuts_pair(h: Head, items: &[u64], used: &[u16], index: u64) -> bool
         k -= 1;
     }
     false
+}
+
+// `used` are the units in use; where none of them is half of a pair, no item has to be passed. The index is of 64 bits, so that an index
+// and a length add up exactly.
+pub fn cuts_pair(h: Head, items: &[u64], used: &[u16], index: u64) -> bool
+    requires { ⌜ Readable h (now items) (now used) ⌝ }
+    ensures { λ r. ⌜ r ≡ splitsPair (visibleUnits (now (used .entry)) (listOf h (now (items .entry)))) index ⌝ }
+{
+    if units::is_plain(used) {
+        return false;
+    }
+    falls_in_pair(h, items, used, index)
 }

@@ -7,8 +7,8 @@ use mathlib.Core.Bool.{Bool, true, false, not, _&&_}
 use mathlib.Core.List.{List, [], _∷_}
 use lib.ListN.{length, getD, take, drop, drop-of-length-le}
 use lib.Seq.{drop-cons, take-take}
-use Rattle.units.specs.Surrogates.{isHigh, isLow, pairedFrom, paired, halfOf, halves}
-use Rattle.units.proofs.Halves.{half-none}
+use Rattle.units.specs.Surrogates.{isHigh, isLow, pairedFrom, paired, splitsPair, halfOf, halves}
+use Rattle.units.proofs.Halves.{and-no-left, half-none}
 use Rattle.units.proofs.Pairing.{drop-take}
 
 -- ---- counted from an index on
@@ -41,3 +41,13 @@ plain-part us s n e = plain-whole (take n (drop s us)) (halves-take (drop s us) 
 pub plain-piece : (us : List ℕ) (m s n : ℕ) → s + n ≤ m → halves (take m us) ≡ 0 → paired (take n (drop s us)) ≡ true
 plain-piece us m s n l e =
     ap paired (sym (ap (take n) (drop-take s m us (omega arith)) ∙ take-take n (m - s) (drop s us) (omega arith))) ∙ plain-part (take m us) s n e
+
+-- ---- no half, no pair to cut
+pub plain-at : (us : List ℕ) (i : ℕ) → halves us ≡ 0 → halfOf (getD us i 0) ≡ 0
+plain-at [] i e = refl
+plain-at (u ∷ us) zero e = omega (arith, e)
+plain-at (u ∷ us) (suc i) e = plain-at us i (omega (arith, e))
+
+pub plain-cuts : (us : List ℕ) (n : ℕ) → halves us ≡ 0 → splitsPair us n ≡ false
+plain-cuts us zero e = refl
+plain-cuts us (suc n) e = and-no-left _ _ (half-none (getD us n 0) (plain-at us n e) .0)
