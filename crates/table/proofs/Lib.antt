@@ -3,3 +3,4 @@ pub mod Asks
 pub mod Grown
 pub mod Model
 pub mod Given
+pub mod Values
