@@ -17,8 +17,8 @@ use Rattle.entries.specs.Entry.{lengthAt, kindAt, contentAt, entryAt}
 use Rattle.entries.specs.Number.{lowBytes, numberOf}
 use Rattle.entries.specs.Order.{fits, fitsAt}
 use Rattle.table.specs.declared.TableHead.{TableHead}
-use Rattle.table.specs.Value.{Value, kindOf, contentOf, valueOf}
-use Rattle.table.specs.Show.{givenName, givenValue, valueAt, nameOf}
+use Rattle.table.specs.Value.{Value, bool, int, string, kindOf, contentOf, valueOf, bytesOf}
+use Rattle.table.specs.Show.{caseOf, givenName, givenValue, valueAt, shownOf, nameOf, stringOf}
 use Rattle.entries.proofs.Bits.{bytes-below, low-number}
 use Rattle.table.proofs.Tables.{both, Given, given-value, given-name, fits-at}
 use Rattle.table.proofs.Model.{one-number}
@@ -159,3 +159,21 @@ module _ (h : TableHead) (m : List ℕ) where
       let p = given-name h m i gi in
       let q = given-name h m j gj in
       one-number m 0 (h .names) 16 i j (p .0 .of-names) (p .1) (q .1) (name-entry i gi ∙ ap (λ (c : List ℕ). 0 ∷ c) e ∙ sym (name-entry j gj))
+
+shown-value : (v w : Value) → caseOf v ≡ caseOf w → bytesOf v ≡ bytesOf w → v ≡ w
+unfolding caseOf bytesOf
+shown-value (bool x) (bool y) e f = cc
+shown-value (bool x) (int y) e f = cc
+shown-value (bool x) (string y) e f = cc
+shown-value (int x) (bool y) e f = cc
+shown-value (int x) (int y) e f = cc
+shown-value (int x) (string y) e f = cc
+shown-value (string x) (bool y) e f = cc
+shown-value (string x) (int y) e f = cc
+shown-value (string x) (string y) e f = cc
+
+-- the same, said of what the calls answer: two numbers that `value_at` and `string_bytes` do not tell apart
+pub shown-apart : (h : TableHead) (m : List ℕ) → Bytes m → (i j : ℕ) → givenValue h m i ≡ true → givenValue h m j ≡ true
+    → shownOf h m i ≡ shownOf h m j → stringOf h m i ≡ stringOf h m j → i ≡ j
+unfolding shownOf stringOf
+shown-apart h m b i j gi gj e f = values-apart h m b i j gi gj (shown-value (valueAt m i) (valueAt m j) (rw (gi, gj) at e) (rw (gi, gj) at f))
