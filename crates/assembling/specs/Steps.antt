@@ -12,9 +12,9 @@ use Rattle.rules.specs.Event.{Change, stays, becomes, change}
 use Rattle.ops.specs.declared.delta.Inserted.the-variants.{Text, Embed}
 use Rattle.ops.specs.declared.delta.Op.{Op}
 use Rattle.ops.specs.declared.delta.Op.the-variants.{Insert, Delete, Retain}
-use Rattle.ops.specs.declared.words.Found.the-variants.{Is, Nothing}
-use Rattle.ops.specs.declared.words.MaybeOp.{MaybeOp}
-use Rattle.ops.specs.Words.{noneFound}
+use Rattle.encoding.specs.declared.Found.the-variants.{Is, Nothing}
+use Rattle.encoding.specs.declared.MaybeOp.{MaybeOp}
+use Rattle.encoding.specs.Words.{noneFound}
 use Rattle.assembling.specs.declared.runs.Action.{Action}
 use Rattle.assembling.specs.declared.runs.Action.the-variants.{Idle, Inserting, Deleting, Retaining}
 use Rattle.assembling.specs.declared.assembler.Assembler.{Assembler}

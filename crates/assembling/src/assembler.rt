@@ -10,16 +10,16 @@ use crate::runs::grow;
 use crate::runs::inserted;
 use crate::runs::starts;
 use attrs::Attrs;
+use encoding::Found;
+use encoding::MaybeOp;
 use items::word::Content;
 use ops::delta::Inserted;
 use ops::delta::Op;
-use ops::words::Found;
-use ops::words::MaybeOp;
 ghost use mathlib.Core.Path.{_≡_};
 ghost use Prim.Native.Nat.{_+_, _<_};
 ghost use Rattle.rules.specs.Sheet.{width};
 ghost use Rattle.items.specs.Word.{whatOf};
-ghost use Rattle.ops.specs.Words.{noneFound};
+ghost use Rattle.encoding.specs.Words.{noneFound};
 ghost use Rattle.assembling.specs.Steps.{load, actionOp, turnedBy, textBy, embedBy, markBy, passBy, freshAsm};
 
 // `units` counts the text told so far: an insertion's text begins there. `attrs` are pending; `current` are in force now, `old` were.

@@ -5,14 +5,14 @@ use crate::say::say_attrs;
 use crate::say::say_number;
 use crate::say::say_units;
 use attrs::Attrs;
+use encoding::Found;
+use encoding::op_at;
 use items::head::Head;
 use items::word::Content;
 use items::word::Item;
 use items::word::unpack;
 use ops::delta::Inserted;
 use ops::delta::Op;
-use ops::words::Found;
-use ops::words::op_at;
 use runs::run::Run;
 
 fn say_len(h: Head, items: &[u64], units: &[u16]) {

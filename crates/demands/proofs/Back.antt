@@ -12,9 +12,9 @@ use Rattle.attrs.proofs.Force.{Keyed, within-keyed}
 use Rattle.rules.specs.Reading.{Glyph, unit, thing, Op, insert, delete, retain}
 use Rattle.rules.specs.Event.{inUnits}
 use Rattle.ops.specs.declared.delta.DeltaOp.{DeltaOp}
-use Rattle.ops.specs.declared.words.MaybeOp.{MaybeOp}
-use Rattle.ops.specs.Words.{allWords, foundAt}
-use Rattle.ops.proofs.Back.{Lawful, found, read-back}
+use Rattle.encoding.specs.declared.MaybeOp.{MaybeOp}
+use Rattle.encoding.specs.Words.{allWords, foundAt}
+use Rattle.encoding.proofs.Back.{Lawful, found, read-back}
 use Rattle.events.specs.Told.{Ops, unitsIn, partOf, deltaOf, deltaOps, encoded, unitsFor, texts}
 use Rattle.events.proofs.Texts.{length-for}
 use Rattle.demands.specs.Written.{partIn, opIn, opsFound, readBack, spelled, spelledOp}

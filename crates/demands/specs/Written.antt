@@ -10,9 +10,9 @@ use Rattle.ops.specs.declared.delta.Inserted.{Inserted}
 use Rattle.ops.specs.declared.delta.Inserted.the-variants.{Text, Embed}
 use Rattle.ops.specs.declared.delta.Op.{Op as Kind}
 use Rattle.ops.specs.declared.delta.Op.the-variants.{Insert, Delete, Retain}
-use Rattle.ops.specs.declared.words.Found.{Found}
-use Rattle.ops.specs.declared.words.Found.the-variants.{Is, Nothing}
-use Rattle.ops.specs.Words.{foundAt}
+use Rattle.encoding.specs.declared.Found.{Found}
+use Rattle.encoding.specs.declared.Found.the-variants.{Is, Nothing}
+use Rattle.encoding.specs.Words.{foundAt}
 use Rattle.events.specs.declared.event.EventAnswer.{EventAnswer}
 use Rattle.events.specs.Told.{Ops}
 use Rattle.events.specs.Given.{given, atFront}

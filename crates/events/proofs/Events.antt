@@ -18,7 +18,7 @@ use Rattle.items.specs.Memory.{listOf, soundOf, Sound}
 use Rattle.items.proofs.Soundness.{sound-parts}
 use Rattle.items.proofs.Models.{used-length, model-sound}
 use Rattle.ops.specs.declared.delta.DeltaOp.{DeltaOp}
-use Rattle.ops.specs.Words.{allWords}
+use Rattle.encoding.specs.Words.{allWords}
 use Rattle.events.specs.declared.walk.Measure.{Measure}
 use Rattle.assembling.specs.Steps.{wasBy, isBy}
 use Rattle.events.specs.Told.{Ops, deltaOps, encoded, unitsFor, texts, tellAll, begun}

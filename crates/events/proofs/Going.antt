@@ -15,10 +15,10 @@ use Rattle.items.specs.Chain.{itemAt, nextAt, chain, walks}
 use Rattle.items.specs.Memory.{listOf}
 use Rattle.items.proofs.Links.{chain-step, walks-next}
 use Rattle.ops.specs.declared.delta.DeltaOp.{DeltaOp}
-use Rattle.ops.specs.declared.words.Found.{Found}
-use Rattle.ops.specs.declared.words.Found.the-variants.{Is, Nothing}
-use Rattle.ops.specs.declared.words.MaybeOp.{MaybeOp}
-use Rattle.ops.specs.Words.{wordsOf}
+use Rattle.encoding.specs.declared.Found.{Found}
+use Rattle.encoding.specs.declared.Found.the-variants.{Is, Nothing}
+use Rattle.encoding.specs.declared.MaybeOp.{MaybeOp}
+use Rattle.encoding.specs.Words.{wordsOf}
 use Rattle.assembling.specs.declared.assembler.Assembler.{Assembler}
 use Rattle.assembling.specs.declared.assembler.Passed.{Passed}
 use Rattle.events.specs.declared.telling.Count.{Count}

@@ -15,7 +15,7 @@ use Rattle.attrs.proofs.Says.{says-packed}
 use Rattle.rules.specs.Reading.{Glyph, Op, insert, delete, retain}
 use Rattle.rules.specs.Event.{isPlain, ahead, finish, toldUnits}
 use Rattle.ops.specs.declared.delta.DeltaOp.{DeltaOp}
-use Rattle.ops.specs.Words.{wordsOf, allWords}
+use Rattle.encoding.specs.Words.{wordsOf, allWords}
 use Rattle.events.specs.Told.{Ops, unitsIn, deltaOf, deltaOps, plainKind, keptBy, wroteBy, Telling, tellAll}
 
 -- ---- in parts

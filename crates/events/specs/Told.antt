@@ -16,10 +16,10 @@ use Rattle.ops.specs.declared.delta.Inserted.the-variants.{Text, Embed}
 use Rattle.ops.specs.declared.delta.Op.{Op as Kind}
 use Rattle.ops.specs.declared.delta.Op.the-variants.{Insert, Delete, Retain}
 use Rattle.ops.specs.declared.delta.DeltaOp.{DeltaOp}
-use Rattle.ops.specs.declared.words.Found.{Found}
-use Rattle.ops.specs.declared.words.Found.the-variants.{Is, Nothing}
-use Rattle.ops.specs.declared.words.MaybeOp.{MaybeOp}
-use Rattle.ops.specs.Words.{wordsOf, allWords}
+use Rattle.encoding.specs.declared.Found.{Found}
+use Rattle.encoding.specs.declared.Found.the-variants.{Is, Nothing}
+use Rattle.encoding.specs.declared.MaybeOp.{MaybeOp}
+use Rattle.encoding.specs.Words.{wordsOf, allWords}
 use Rattle.events.specs.declared.telling.Count.{Count}
 
 abbrev pub Ops : Type 0

@@ -1,10 +1,10 @@
 // Operations told one after the other: counted all, written while fewer than a limit are.
 use attrs::Attrs;
+use encoding::Found;
+use encoding::MaybeOp;
+use encoding::write_op;
 use ops::delta::DeltaOp;
 use ops::delta::Op;
-use ops::words::Found;
-use ops::words::MaybeOp;
-use ops::words::write_op;
 ghost use mathlib.Core.Path.{_≡_};
 ghost use Prim.Native.Nat.{_+_, _*_, _<_, _≤_};
 ghost use lib.ListN.{length};

@@ -10,7 +10,7 @@ use Rattle.runs.specs.declared.calls.Found.the-variants.{Here, Nothing, Broken}
 use Rattle.runs.specs.declared.run.Run.{Run}
 use Rattle.runs.specs.Answers.{Said, said}
 use Rattle.ops.specs.declared.delta.DeltaOp.{DeltaOp}
-use Rattle.ops.specs.Words.{wordsOf}
+use Rattle.encoding.specs.Words.{wordsOf}
 use Rattle.ffi.specs.Answers.{runOp, saidWords}
 
 abbrev pub zeros : List ℕ

@@ -10,7 +10,7 @@ use Rattle.runs.specs.declared.run.Run.{Run}
 use Rattle.runs.specs.declared.cursor.Spot.{Spot}
 use Rattle.runs.specs.declared.cursor.Cursor.{Cursor}
 use Rattle.runs.specs.Cursors.{recordsAt, Stands, one, Next}
-use Rattle.ops.specs.Words.{wordsOf}
+use Rattle.encoding.specs.Words.{wordsOf}
 use Rattle.events.proofs.Tellings.{sets-append}
 use Rattle.ffi.specs.Answers.{runOp, runsWords}
 

@@ -13,7 +13,7 @@ use Rattle.runs.specs.Answers.{Said}
 use Rattle.ops.specs.declared.delta.Inserted.the-variants.{Text, Embed}
 use Rattle.ops.specs.declared.delta.Op.the-variants.{Insert}
 use Rattle.ops.specs.declared.delta.DeltaOp.{DeltaOp}
-use Rattle.ops.specs.Words.{wordsOf, allWords}
+use Rattle.encoding.specs.Words.{wordsOf, allWords}
 use Rattle.events.specs.declared.event.EventAnswer.{EventAnswer}
 use Rattle.events.specs.Given.{atFront}
 use Rattle.table.specs.declared.Shown.{Shown}

@@ -7,11 +7,11 @@ use lib.ListN.{length}
 use Rattle.attrs.specs.declared.Attrs.{Attrs}
 use Rattle.items.specs.declared.head.Head.{Head}
 use Rattle.items.specs.Memory.{soundOf, Carried, keptAll}
-use Rattle.ops.specs.declared.words.Found.{Found}
-use Rattle.ops.specs.declared.words.Found.the-variants.{Is, Nothing}
-use Rattle.ops.specs.declared.words.MaybeOp.{MaybeOp}
+use Rattle.encoding.specs.declared.Found.{Found}
+use Rattle.encoding.specs.declared.Found.the-variants.{Is, Nothing}
+use Rattle.encoding.specs.declared.MaybeOp.{MaybeOp}
 use Rattle.ops.specs.Ops.{emptyDelta, pushed}
-use Rattle.ops.specs.Words.{foundAt}
+use Rattle.encoding.specs.Words.{foundAt}
 use Rattle.deltas.specs.Call.{carryDelta}
 use Rattle.ffi.specs.declared.telling.ReadDelta.{ReadDelta}
 

@@ -10,7 +10,7 @@ ghost use Rattle.ffi.specs.Heads.{headOf};
 ghost use Rattle.ffi.specs.Answers.{countIn, runsWords};
 use crate::heads::head_of;
 use crate::reading::run_op;
-use ops::words::write_op;
+use encoding::write_op;
 use runs::calls::plan;
 use runs::cursor::Cursor;
 use runs::cursor::next_run;

@@ -11,11 +11,11 @@ ghost use Rattle.ranges.specs.Texts.{Copied};
 ghost use Rattle.events.specs.Given.{given, atFront};
 ghost use Rattle.ffi.specs.Answers.{lengthIn, countIn, eventIn, runOp, saidWords};
 use crate::heads::head_of;
+use encoding::write_op;
 use items::head::Head;
 use ops::delta::DeltaOp;
 use ops::delta::Inserted;
 use ops::delta::Op;
-use ops::words::write_op;
 use runs::calls::Found;
 use runs::run::Run;
 

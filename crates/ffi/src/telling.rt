@@ -1,20 +1,20 @@
 // A delta that is lent in operation numbers, eight to each operation.
 ghost use mathlib.Core.Path.{_≡_};
 ghost use lib.ListN.{length};
-ghost use Rattle.ops.specs.Words.{foundAt};
+ghost use Rattle.encoding.specs.Words.{foundAt};
 ghost use Rattle.changes.specs.Frame.{leaving};
 ghost use Rattle.ffi.specs.Heads.{headOf, left};
 ghost use Rattle.ffi.specs.Deltas.{readOne, readOps, deltaIn, carryWords};
 use crate::heads::answered;
 use crate::heads::head_of;
 use deltas::apply::apply_delta;
+use encoding::Found;
+use encoding::op_at;
 use items::calls::Answer;
 use items::head::Head;
 use items::sound::sound;
 use ops::delta::Delta;
 use ops::delta::DeltaOp;
-use ops::words::Found;
-use ops::words::op_at;
 
 // The delta that was read, and whether all of the numbers are operations.
 pub(crate) struct ReadDelta {

@@ -1,9 +1,9 @@
--- `ops::words::op_at` meets its contract. Assumes nothing.
+-- `encoding::op_at` meets its contract. Assumes nothing.
 use borrow.Author.Needs.{needs}
-use Rattle.ops.proofs.words.op_at.Statement.{statement}
-use Rattle.ops.proofs.words.op_at.Tie as tie
+use Rattle.encoding.proofs.op_at.Statement.{statement}
+use Rattle.encoding.proofs.op_at.Tie as tie
 use borrow.Author.Tests.{lt-ltb, le-ltb}
-use Rattle.ops.specs.Words.{foundAt, opFrom}
+use Rattle.encoding.specs.Words.{foundAt, opFrom}
 
 mul-at : tie.Need-mul-at
 mul-at c = search needs

@@ -7,14 +7,14 @@ use lib.ListN.{length, getD}
 use Rattle.attrs.specs.declared.Attrs.{Attrs}
 use Rattle.attrs.specs.Sets.{empty}
 use Rattle.attrs.specs.Packed.{packed}
 use Rattle.ops.specs.declared.delta.Inserted.{Inserted}
 use Rattle.ops.specs.declared.delta.Inserted.the-variants.{Text, Embed}
 use Rattle.ops.specs.declared.delta.Op.{Op}
 use Rattle.ops.specs.declared.delta.Op.the-variants.{Insert, Delete, Retain}
 use Rattle.ops.specs.declared.delta.DeltaOp.{DeltaOp}
-use Rattle.ops.specs.declared.words.Found.{Found}
-use Rattle.ops.specs.declared.words.Found.the-variants.{Is, Nothing}
-use Rattle.ops.specs.declared.words.MaybeOp.{MaybeOp}
+use Rattle.encoding.specs.declared.Found.{Found}
+use Rattle.encoding.specs.declared.Found.the-variants.{Is, Nothing}
+use Rattle.encoding.specs.declared.MaybeOp.{MaybeOp}
 
 -- ---- written
 

@@ -1,12 +1,12 @@
--- `ops::words::write_op` meets its contract. Assumes nothing.
+-- `encoding::write_op` meets its contract. Assumes nothing.
 use borrow.Author.Needs.{needs}
-use Rattle.ops.proofs.words.write_op.Statement.{statement}
-use Rattle.ops.proofs.words.write_op.Tie as tie
+use Rattle.encoding.proofs.write_op.Statement.{statement}
+use Rattle.encoding.proofs.write_op.Tie as tie
 use native.Mathlib.Omega.{arith}
 use lib.ListN.{length-set}
-use Rattle.ops.proofs.Stores.{eight}
+use Rattle.encoding.proofs.Stores.{eight}
 use Prim.Native.Nat.{_*_}
-use Rattle.ops.specs.Words.{kindOf, firstOf, secondOf, four}
+use Rattle.encoding.specs.Words.{kindOf, firstOf, secondOf, four}
 
 mul-at : tie.Need-mul-at
 mul-at c = search needs

@@ -1,15 +1,15 @@
 // An operation in lent numbers: eight to each, namely its kind (1 text, 2 embed, 3 delete, 4 retain), a start or number, a length,
 // the key mask, and the sixteen values, four to a number.
-use crate::delta::DeltaOp;
-use crate::delta::Inserted;
-use crate::delta::Op;
 use attrs::Attrs;
+use ops::delta::DeltaOp;
+use ops::delta::Inserted;
+use ops::delta::Op;
 ghost use mathlib.Core.Path.{_≡_};
 ghost use mathlib.Core.List.{List};
 ghost use Prim.Native.Nat.{ℕ, _+_, _*_, _/_, _%_, _<_, _≤_};
 ghost use lib.ListN.{length};
 ghost use lib.Seq.{sets};
-ghost use Rattle.ops.specs.Words.{bytesOf, four, meantBy, foundAt, kindOf, firstOf, secondOf, wordsOf};
+ghost use Rattle.encoding.specs.Words.{bytesOf, four, meantBy, foundAt, kindOf, firstOf, secondOf, wordsOf};
 
 pub enum Found {
     Is(Op),

@@ -10,13 +10,13 @@ use lib.Seq.{getD-append-add}
 use borrow.Author.Tests.{le-ltb}
 use Rattle.attrs.specs.declared.Attrs.{Attrs}
 use Rattle.attrs.specs.Packed.{Whole}
 use Rattle.ops.specs.declared.delta.Inserted.the-variants.{Text, Embed}
 use Rattle.ops.specs.declared.delta.Op.{Op}
 use Rattle.ops.specs.declared.delta.Op.the-variants.{Insert, Delete, Retain}
 use Rattle.ops.specs.declared.delta.DeltaOp.{DeltaOp}
-use Rattle.ops.specs.declared.words.Found.the-variants.{Is}
-use Rattle.ops.specs.declared.words.MaybeOp.{MaybeOp}
-use Rattle.ops.specs.Words.{kindOf, firstOf, secondOf, four, wordsOf, allWords, bytesOf, meantBy, opFrom, foundFrom, foundAt}
+use Rattle.encoding.specs.declared.Found.the-variants.{Is}
+use Rattle.encoding.specs.declared.MaybeOp.{MaybeOp}
+use Rattle.encoding.specs.Words.{kindOf, firstOf, secondOf, four, wordsOf, allWords, bytesOf, meantBy, opFrom, foundFrom, foundAt}
 
 -- An operation that is there, with its set.
 abbrev pub found : DeltaOp → MaybeOp

@@ -1,6 +1,6 @@
--- `ops::words::kind_of` meets its contract. Assumes nothing.
-use Rattle.ops.proofs.words.kind_of.Statement.{statement}
-use Rattle.ops.proofs.words.kind_of.Tie as tie
+-- `encoding::kind_of` meets its contract. Assumes nothing.
+use Rattle.encoding.proofs.kind_of.Statement.{statement}
+use Rattle.encoding.proofs.kind_of.Tie as tie
 use borrow.Author.Tests.{eq-eqb, ne-eqb}
 
 returns : tie.Need-returns
