@@ -10,6 +10,25 @@ pub const UNITS: usize = 16384;
 static SCRATCH_ITEMS: [u64; ITEMS] = [0; ITEMS];
 static SCRATCH_UNITS: [u16; UNITS] = [0; UNITS];
 
+// A call lent the sheet's parts, each pointer with its own length: what the archive asks for.
+macro_rules! changing {
+    ($sheet:ident.$call:ident($($arg:expr),*)) => {
+        // SAFETY: the pointers and lengths are those of the sheet's own buffers, which nothing else holds.
+        Refusal::check(unsafe {
+            sys::$call(&mut $sheet.head, $sheet.items.as_mut_ptr(), $sheet.items.len(), $sheet.units.as_mut_ptr(), $sheet.units.len() $(, $arg)*)
+        })
+    };
+}
+
+macro_rules! reading {
+    ($sheet:ident.$call:ident($($arg:expr),*)) => {
+        // SAFETY: as above, lent to be read.
+        Refusal::check(unsafe {
+            sys::$call(&$sheet.head, $sheet.items.as_ptr(), $sheet.items.len(), $sheet.units.as_ptr(), $sheet.units.len() $(, $arg)*)
+        })
+    };
+}
+
 /// A part of what is seen, and what is in force on it.
 #[derive(Debug, Clone, PartialEq, Eq)]
 pub struct Run {
@@ -70,15 +89,13 @@ impl Sheet {
 
     /// Whether the buffers hold a sound sheet.
     pub fn is_sound(&self) -> bool {
-        // SAFETY: every pointer is lent with its own length, here and below.
+        // SAFETY: every pointer is lent with its own length.
         unsafe { sys::indovalump_sound(&self.head, self.items.as_ptr(), self.items.len(), self.units.as_ptr(), self.units.len()) }
     }
 
     /// A transaction begins: `event` tells what came after it.
     pub fn begin(&mut self) -> Result<(), Refusal> {
-        Refusal::check(unsafe {
-            sys::indovalump_begin(&mut self.head, self.items.as_mut_ptr(), self.items.len(), self.units.as_ptr(), self.units.len())
-        })
+        changing!(self.indovalump_begin())
     }
 
     /// Plain text: it takes the attributes of the unit before it.
@@ -89,18 +106,7 @@ impl Sheet {
 
     /// The same in UTF-16 units.
     pub fn insert_units(&mut self, index: u32, text: &[u16]) -> Result<(), Refusal> {
-        Refusal::check(unsafe {
-            sys::indovalump_insert(
-                &mut self.head,
-                self.items.as_mut_ptr(),
-                self.items.len(),
-                self.units.as_mut_ptr(),
-                self.units.len(),
-                index,
-                text.as_ptr(),
-                text.len(),
-            )
-        })
+        changing!(self.indovalump_insert(index, text.as_ptr(), text.len()))
     }
 
     /// Text that has exactly these attributes.
@@ -120,84 +126,27 @@ impl Sheet {
 
     /// The same in UTF-16 units.
     pub fn insert_units_with_attributes(&mut self, index: u32, text: &[u16], attrs: &Attrs) -> Result<(), Refusal> {
-        Refusal::check(unsafe {
-            sys::indovalump_insert_with_attributes(
-                &mut self.head,
-                self.items.as_mut_ptr(),
-                self.items.len(),
-                self.units.as_mut_ptr(),
-                self.units.len(),
-                index,
-                text.as_ptr(),
-                text.len(),
-                attrs.mask,
-                &attrs.values,
-            )
-        })
+        changing!(self.indovalump_insert_with_attributes(index, text.as_ptr(), text.len(), attrs.mask, &attrs.values))
     }
 
     /// A plain embed, by its number.
     pub fn insert_embed(&mut self, index: u32, number: u32) -> Result<(), Refusal> {
-        Refusal::check(unsafe {
-            sys::indovalump_insert_embed(
-                &mut self.head,
-                self.items.as_mut_ptr(),
-                self.items.len(),
-                self.units.as_ptr(),
-                self.units.len(),
-                index,
-                number,
-            )
-        })
+        changing!(self.indovalump_insert_embed(index, number))
     }
 
     /// An embed that has exactly these attributes.
     pub fn insert_embed_with_attributes(&mut self, index: u32, number: u32, attrs: &Attrs) -> Result<(), Refusal> {
-        Refusal::check(unsafe {
-            sys::indovalump_insert_embed_with_attributes(
-                &mut self.head,
-                self.items.as_mut_ptr(),
-                self.items.len(),
-                self.units.as_ptr(),
-                self.units.len(),
-                index,
-                number,
-                attrs.mask,
-                &attrs.values,
-            )
-        })
+        changing!(self.indovalump_insert_embed_with_attributes(index, number, attrs.mask, &attrs.values))
     }
 
     /// Attributes for a range; null takes a key away. A length past the end formats to the end.
     pub fn format(&mut self, index: u32, len: u32, attrs: &Attrs) -> Result<(), Refusal> {
-        Refusal::check(unsafe {
-            sys::indovalump_format(
-                &mut self.head,
-                self.items.as_mut_ptr(),
-                self.items.len(),
-                self.units.as_ptr(),
-                self.units.len(),
-                index,
-                len,
-                attrs.mask,
-                &attrs.values,
-            )
-        })
+        changing!(self.indovalump_format(index, len, attrs.mask, &attrs.values))
     }
 
     /// All of a range goes, or nothing.
     pub fn remove_range(&mut self, index: u32, len: u32) -> Result<(), Refusal> {
-        Refusal::check(unsafe {
-            sys::indovalump_remove_range(
-                &mut self.head,
-                self.items.as_mut_ptr(),
-                self.items.len(),
-                self.units.as_ptr(),
-                self.units.len(),
-                index,
-                len,
-            )
-        })
+        changing!(self.indovalump_remove_range(index, len))
     }
 
     /// A delta as a whole, or nothing of it.
@@ -221,31 +170,22 @@ impl Sheet {
 
     /// The same in operation numbers, eight to each, and the units that their texts are parts of.
     pub fn apply_words(&mut self, ops: &[u32], text: &[u16]) -> Result<(), Refusal> {
-        Refusal::check(unsafe {
-            sys::indovalump_apply_delta(
-                &mut self.head,
-                self.items.as_mut_ptr(),
-                self.items.len(),
-                self.units.as_mut_ptr(),
-                self.units.len(),
-                ops.as_ptr(),
-                ops.len(),
-                text.as_ptr(),
-                text.len(),
-                SCRATCH_ITEMS.as_ptr(),
-                ITEMS,
-                SCRATCH_UNITS.as_ptr(),
-                UNITS,
-            )
-        })
+        changing!(self.indovalump_apply_delta(
+            ops.as_ptr(),
+            ops.len(),
+            text.as_ptr(),
+            text.len(),
+            SCRATCH_ITEMS.as_ptr(),
+            ITEMS,
+            SCRATCH_UNITS.as_ptr(),
+            UNITS
+        ))
     }
 
     /// How many units and embeds are seen.
     pub fn len(&self) -> Result<u32, Refusal> {
         let mut len = 0;
-        Refusal::check(unsafe {
-            sys::indovalump_len(&self.head, self.items.as_ptr(), self.items.len(), self.units.as_ptr(), self.units.len(), &mut len)
-        })?;
+        reading!(self.indovalump_len(&mut len))?;
         Ok(len)
     }
 
@@ -260,20 +200,7 @@ impl Sheet {
         let most = self.head[1].min(ITEMS as u32) + self.head[2].min(UNITS as u32);
         let mut out = vec![0; len.min(most) as usize];
         let mut count = 0;
-        Refusal::check(unsafe {
-            sys::indovalump_text(
-                &self.head,
-                self.items.as_ptr(),
-                self.items.len(),
-                self.units.as_ptr(),
-                self.units.len(),
-                index,
-                len,
-                out.as_mut_ptr(),
-                out.len(),
-                &mut count,
-            )
-        })?;
+        reading!(self.indovalump_text(index, len, out.as_mut_ptr(), out.len(), &mut count))?;
         out.truncate(count);
         Ok(out)
     }
@@ -282,19 +209,7 @@ impl Sheet {
     pub fn run_words(&self, joined: bool) -> Result<Vec<u32>, Refusal> {
         let mut ops = vec![0; self.head[1].min(ITEMS as u32) as usize * 8];
         let mut count = 0;
-        Refusal::check(unsafe {
-            sys::indovalump_runs(
-                &self.head,
-                self.items.as_ptr(),
-                self.items.len(),
-                self.units.as_ptr(),
-                self.units.len(),
-                joined,
-                ops.as_mut_ptr(),
-                ops.len(),
-                &mut count,
-            )
-        })?;
+        reading!(self.indovalump_runs(joined, ops.as_mut_ptr(), ops.len(), &mut count))?;
         ops.truncate(count * 8);
         Ok(ops)
     }
@@ -324,18 +239,7 @@ impl Sheet {
     /// Run `n` from 0, or none at or past their count.
     pub fn run_at(&self, joined: bool, n: u32) -> Result<Option<Run>, Refusal> {
         let mut w = [0; 8];
-        Refusal::check(unsafe {
-            sys::indovalump_run_at(
-                &self.head,
-                self.items.as_ptr(),
-                self.items.len(),
-                self.units.as_ptr(),
-                self.units.len(),
-                joined,
-                n,
-                &mut w,
-            )
-        })?;
+        reading!(self.indovalump_run_at(joined, n, &mut w))?;
         if w[0] != 1 {
             return Ok((w[0] == 2).then(|| Run { insert: Content::Embed(w[1]), attributes: Attrs::from_words(w[3], &w[4..]) }));
         }
@@ -346,17 +250,7 @@ impl Sheet {
     /// How many runs there are.
     pub fn count_runs(&self, joined: bool) -> Result<usize, Refusal> {
         let mut count = 0;
-        Refusal::check(unsafe {
-            sys::indovalump_count_runs(
-                &self.head,
-                self.items.as_ptr(),
-                self.items.len(),
-                self.units.as_ptr(),
-                self.units.len(),
-                joined,
-                &mut count,
-            )
-        })?;
+        reading!(self.indovalump_count_runs(joined, &mut count))?;
         Ok(count)
     }
 
@@ -377,20 +271,7 @@ impl Sheet {
         let mut ops = vec![0; self.head[1].min(ITEMS as u32) as usize * 8];
         let mut texts = vec![0; self.head[2].min(UNITS as u32) as usize];
         let mut counts = [0; 2];
-        Refusal::check(unsafe {
-            sys::indovalump_event(
-                &self.head,
-                self.items.as_ptr(),
-                self.items.len(),
-                self.units.as_ptr(),
-                self.units.len(),
-                ops.as_mut_ptr(),
-                ops.len(),
-                texts.as_mut_ptr(),
-                texts.len(),
-                &mut counts,
-            )
-        })?;
+        reading!(self.indovalump_event(ops.as_mut_ptr(), ops.len(), texts.as_mut_ptr(), texts.len(), &mut counts))?;
         Ok(ops.chunks_exact(8).take(counts[0] as usize).filter_map(|w| Op::from_words(w, &texts)).collect())
     }
 }
