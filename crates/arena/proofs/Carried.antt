@@ -7,7 +7,7 @@ use Rattle.rules.specs.Sheet.{Item}
 use Rattle.rules.specs.Reading.{live}
 use Rattle.rules.specs.Places.{At, Move, after, andThen}
 use Rattle.laws.proofs.Places.{force-append}
-use Rattle.items.specs.declared.head.Head.{Head}
+use Rattle.layout.specs.declared.head.Head.{Head}
 use Rattle.arena.specs.declared.Place.{Place}
 use Rattle.arena.specs.Places.{leftOf, rightOf, placed, movedBy, Standing, Carried, Going, inTurn, staying}
 

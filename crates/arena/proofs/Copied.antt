@@ -10,14 +10,14 @@ use lib.ListN.{length, getD, set, take, drop, length-append, length-drop, List·
 use lib.Seq.{length-take-le, getD-take, paste, paste-suc}
 use borrow.Author.Tests.{lt-ltb}
 use Rattle.rules.specs.Sheet as Sheet
-use Rattle.items.specs.declared.head.Head.{Head}
-use Rattle.items.specs.declared.word.Content.{Content}
-use Rattle.items.specs.declared.word.Content.the-variants.{Text, Embed, Mark}
-use Rattle.items.specs.declared.word.Item.{Item}
-use Rattle.items.specs.Word.{whatOf, unpackOf, packOf}
-use Rattle.items.specs.Chain.{itemAt, nextAt, chain, walks, headOr}
-use Rattle.items.proofs.Links.{walks-parts}
-use Rattle.items.proofs.Writes.{after-is, item-is}
+use Rattle.layout.specs.declared.head.Head.{Head}
+use Rattle.layout.specs.declared.word.Content.{Content}
+use Rattle.layout.specs.declared.word.Content.the-variants.{Text, Embed, Mark}
+use Rattle.layout.specs.declared.word.Item.{Item}
+use Rattle.layout.specs.Word.{whatOf, unpackOf, packOf}
+use Rattle.layout.specs.Chain.{itemAt, nextAt, chain, walks, headOr}
+use Rattle.layout.proofs.Links.{walks-parts}
+use Rattle.layout.proofs.Writes.{after-is, item-is}
 use Rattle.arena.specs.Places.{SIZE, Neat, Arena, listOf}
 use Rattle.arena.specs.Writes.{copied, contentOf, wordOf}
 use Rattle.arena.proofs.Neat.{neat-word}

@@ -7,14 +7,14 @@ use mathlib.Core.List.{List, _∷_, _++_}
 use lib.ListN.{length, getD, set, length-set}
 use Rattle.rules.specs.Sheet.{text, Item, like, width}
 use Rattle.rules.specs.Places.{leftHalf, rightHalf}
-use Rattle.items.specs.declared.head.Head.{Head}
-use Rattle.items.specs.declared.word.Content.{Content}
-use Rattle.items.specs.declared.word.Content.the-variants.{Text, Embed, Mark}
-use Rattle.items.specs.Word.{whatOf, unpackOf, packOf}
-use Rattle.items.specs.Chain.{END, itemFrom, itemAt, nextAt}
-use Rattle.items.proofs.Words.{item-rest, pack-rest, pack-next}
-use Rattle.items.proofs.Links.{Off, Distinct, distinct, off-above}
-use Rattle.items.proofs.Writes.{link-after, after-is, item-is}
+use Rattle.layout.specs.declared.head.Head.{Head}
+use Rattle.layout.specs.declared.word.Content.{Content}
+use Rattle.layout.specs.declared.word.Content.the-variants.{Text, Embed, Mark}
+use Rattle.layout.specs.Word.{whatOf, unpackOf, packOf}
+use Rattle.layout.specs.Chain.{END, itemFrom, itemAt, nextAt}
+use Rattle.layout.proofs.Words.{item-rest, pack-rest, pack-next}
+use Rattle.layout.proofs.Links.{Off, Distinct, distinct, off-above}
+use Rattle.layout.proofs.Writes.{link-after, after-is, item-is}
 use Rattle.arena.specs.Places.{SIZE, InRange, Arena, listOf}
 use Rattle.arena.specs.Writes.{leftText, rightText, Within, likeItem, cutMem, cutHead}
 use Rattle.arena.proofs.Neat.{fits, neat-pack, neat-set, neat-new}

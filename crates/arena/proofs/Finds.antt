@@ -7,8 +7,8 @@ use mathlib.Core.List.{List, [], _∷_}
 use borrow.Author.Tests.{le-leb, lt-leb}
 use Rattle.rules.specs.Sheet.{Item, dead, width}
 use Rattle.rules.specs.Places.{Move, stay, over, split, uses, place}
-use Rattle.items.specs.declared.head.Head.{Head}
-use Rattle.items.specs.Chain.{itemAt}
+use Rattle.layout.specs.declared.head.Head.{Head}
+use Rattle.layout.specs.Chain.{itemAt}
 use Rattle.arena.specs.declared.Place.{Place}
 use Rattle.arena.specs.Places.{SIZE, rightOf, Carried, Going, Cuttable, forwardOf, staying, halving, placing}
 use Rattle.arena.proofs.Carried.{carried-then}

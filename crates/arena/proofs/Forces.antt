@@ -13,12 +13,12 @@ use Rattle.attrs.proofs.Force.{update-packed, env-packed}
 use Rattle.rules.specs.Sheet.{Item}
 use Rattle.rules.specs.Reading.{live, setKey, passKey, force}
 use Rattle.rules.specs.Places.{after}
-use Rattle.items.specs.declared.head.Head.{Head}
-use Rattle.items.specs.declared.word.Content.{Content}
-use Rattle.items.specs.declared.word.Content.the-variants.{Text, Embed, Mark}
-use Rattle.items.specs.Word.{whatOf, unpackOf}
-use Rattle.items.specs.Chain.{itemAt, nextAt, chain, walks}
-use Rattle.items.proofs.Links.{walks-parts}
+use Rattle.layout.specs.declared.head.Head.{Head}
+use Rattle.layout.specs.declared.word.Content.{Content}
+use Rattle.layout.specs.declared.word.Content.the-variants.{Text, Embed, Mark}
+use Rattle.layout.specs.Word.{whatOf, unpackOf}
+use Rattle.layout.specs.Chain.{itemAt, nextAt, chain, walks}
+use Rattle.layout.proofs.Links.{walks-parts}
 use Rattle.arena.specs.declared.Place.{Place}
 use Rattle.arena.specs.Places.{InRange, Neat, leftOf, inForce, Standing, passedForce}
 use Rattle.arena.proofs.Carried.{after-append}

@@ -7,12 +7,12 @@ use mathlib.Core.List.{List, [], _∷_, _++_, map}
 use lib.ListN.{length, getD, length-set}
 use borrow.Author.Tests.{eq-eqb, ne-eqb}
 use Rattle.rules.specs.Sheet.{Item, kill}
-use Rattle.items.specs.declared.head.Head.{Head}
-use Rattle.items.specs.Word.{unpackOf, packOf}
-use Rattle.items.specs.Chain.{END, itemFrom, itemAt, nextAt, editAt}
-use Rattle.items.proofs.Words.{item-rest, pack-rest, pack-next, fitting-unpack}
-use Rattle.items.proofs.Links.{Off, Distinct, distinct}
-use Rattle.items.proofs.Writes.{edit-chain, edit-walks, after-is, off-mid}
+use Rattle.layout.specs.declared.head.Head.{Head}
+use Rattle.layout.specs.Word.{unpackOf, packOf}
+use Rattle.layout.specs.Chain.{END, itemFrom, itemAt, nextAt, editAt}
+use Rattle.layout.proofs.Words.{item-rest, pack-rest, pack-next, fitting-unpack}
+use Rattle.layout.proofs.Links.{Off, Distinct, distinct}
+use Rattle.layout.proofs.Writes.{edit-chain, edit-walks, after-is, off-mid}
 use Rattle.arena.specs.Places.{Arena, listOf}
 use Rattle.arena.specs.Writes.{killedItem, killMem}
 use Rattle.arena.proofs.Neat.{neat-pack, neat-set}

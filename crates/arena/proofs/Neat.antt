@@ -8,11 +8,11 @@ use lib.ListN.{length, getD, set}
 use lib.Seq.{getD-set-same, getD-set-other}
 use lib.Dec.{eqb}
 use borrow.Author.Tests.{eqb-true, eqb-false}
-use Rattle.items.specs.declared.word.Content.{Content}
-use Rattle.items.specs.declared.word.Content.the-variants.{Text, Embed, Mark}
-use Rattle.items.specs.declared.word.Item.{Item}
-use Rattle.items.specs.Word.{contentFrom, unpackOf, kindOf, payloadOf, flagOf, restOf, packOf, relinkOf, Fitting}
-use Rattle.items.proofs.Words.{kind-lt, payload-lt, flag-le, unpack-pack, pack-unpack, pack-rest, relink-rest}
+use Rattle.layout.specs.declared.word.Content.{Content}
+use Rattle.layout.specs.declared.word.Content.the-variants.{Text, Embed, Mark}
+use Rattle.layout.specs.declared.word.Item.{Item}
+use Rattle.layout.specs.Word.{contentFrom, unpackOf, kindOf, payloadOf, flagOf, restOf, packOf, relinkOf, Fitting}
+use Rattle.layout.proofs.Words.{kind-lt, payload-lt, flag-le, unpack-pack, pack-unpack, pack-rest, relink-rest}
 use Rattle.arena.specs.Places.{InRange, Neat}
 
 pub fits : (c : Content) → InRange c → Fitting c

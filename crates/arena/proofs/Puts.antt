@@ -9,13 +9,13 @@ use lib.ListN.{length, getD, set, length-set}
 use lib.Dec.{eqb}
 use borrow.Author.Tests.{ne-eqb}
 use Rattle.rules.specs.Sheet.{Item, new}
-use Rattle.items.specs.declared.head.Head.{Head}
-use Rattle.items.specs.declared.word.Content.{Content}
-use Rattle.items.specs.Word.{whatOf, packOf, relinkOf}
-use Rattle.items.specs.Chain.{END, itemFrom, chain, headOr, lastOr}
-use Rattle.items.proofs.Words.{item-rest, pack-rest, pack-next, relink-rest, relink-next}
-use Rattle.items.proofs.Links.{Off, Distinct, distinct, off-above, head-is}
-use Rattle.items.proofs.Writes.{link-after, link-front, last-of, after-is, item-is, start-le}
+use Rattle.layout.specs.declared.head.Head.{Head}
+use Rattle.layout.specs.declared.word.Content.{Content}
+use Rattle.layout.specs.Word.{whatOf, packOf, relinkOf}
+use Rattle.layout.specs.Chain.{END, itemFrom, chain, headOr, lastOr}
+use Rattle.layout.proofs.Words.{item-rest, pack-rest, pack-next, relink-rest, relink-next}
+use Rattle.layout.proofs.Links.{Off, Distinct, distinct, off-above, head-is}
+use Rattle.layout.proofs.Writes.{link-after, link-front, last-of, after-is, item-is, start-le}
 use Rattle.arena.specs.Places.{SIZE, Linkable, InRange, Arena, listOf}
 use Rattle.arena.specs.Writes.{freshItem, frontMem, afterMem, putMem, putHead}
 use Rattle.arena.proofs.Neat.{fits, neat-pack, neat-relink, neat-set, neat-new}

@@ -7,10 +7,10 @@ use mathlib.Core.List.{List, [], _∷_, _++_}
 use lib.ListN.{length, getD, take, drop, length-append, length-drop, take-append-drop}
 use lib.Seq.{take-at, drop-at}
 use Rattle.rules.specs.Sheet.{Item}
-use Rattle.items.specs.declared.head.Head.{Head}
-use Rattle.items.specs.Chain.{END, itemAt, nextAt, chain, walks, headOr, lastOr}
-use Rattle.items.proofs.Links.{walks-parts, walks-lt, head-is, length-chain, chain-step}
-use Rattle.items.proofs.Writes.{no-cons}
+use Rattle.layout.specs.declared.head.Head.{Head}
+use Rattle.layout.specs.Chain.{END, itemAt, nextAt, chain, walks, headOr, lastOr}
+use Rattle.layout.proofs.Links.{walks-parts, walks-lt, head-is, length-chain, chain-step}
+use Rattle.layout.proofs.Writes.{no-cons}
 use Rattle.arena.specs.declared.Place.{Place}
 use Rattle.arena.specs.Places.{Neat, Arena, listOf, leftOf, rightOf, placed, inForce, Standing}
 

@@ -11,11 +11,11 @@ use Rattle.attrs.specs.Sets.{none}
 use Rattle.rules.specs.Sheet.{Item, new, like, kill}
 use Rattle.rules.specs.Places.{Move, after, andThen, leftHalf, rightHalf}
 use Rattle.rules.specs.Edits.{putNew}
-use Rattle.items.specs.declared.head.Head.{Head}
-use Rattle.items.specs.declared.word.Content.{Content}
-use Rattle.items.specs.Word.{whatOf, unpackOf}
-use Rattle.items.specs.Chain.{END, itemAt, nextAt, chain, headOr, lastOr}
-use Rattle.items.proofs.Links.{length-chain, head-is, walks-next}
+use Rattle.layout.specs.declared.head.Head.{Head}
+use Rattle.layout.specs.declared.word.Content.{Content}
+use Rattle.layout.specs.Word.{whatOf, unpackOf}
+use Rattle.layout.specs.Chain.{END, itemAt, nextAt, chain, headOr, lastOr}
+use Rattle.layout.proofs.Links.{length-chain, head-is, walks-next}
 use Rattle.arena.specs.declared.Place.{Place}
 use Rattle.arena.specs.Places.{SIZE, Linkable, Arena, listOf, leftOf, rightOf, Standing, Carried, Puttable, Cuttable, startOf, passedForce, forwardOf, ahead, halving, killing, widened}
 use Rattle.arena.specs.Writes.{Within, putMem, putHead, cutMem, cutHead, killMem}

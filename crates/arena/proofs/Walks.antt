@@ -8,9 +8,9 @@ use lib.Seq.{length-take-le}
 use Rattle.attrs.specs.Sets.{Env, none}
 use Rattle.rules.specs.Sheet.{Item, kill}
 use Rattle.rules.specs.Places.{At, Move, over, after, whole}
-use Rattle.items.specs.declared.head.Head.{Head}
-use Rattle.items.specs.Chain.{itemAt, nextAt, chain, headOr}
-use Rattle.items.proofs.Links.{length-chain}
+use Rattle.layout.specs.declared.head.Head.{Head}
+use Rattle.layout.specs.Chain.{itemAt, nextAt, chain, headOr}
+use Rattle.layout.proofs.Links.{length-chain}
 use Rattle.arena.specs.declared.Place.{Place}
 use Rattle.arena.specs.Places.{listOf, leftOf, rightOf, placed, movedBy, keptPlace, Standing, Carried, Going, forwardOf, inTurn, staying}
 use Rattle.arena.specs.Writes.{killMem}

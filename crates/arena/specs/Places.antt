@@ -9,11 +9,11 @@ use Rattle.attrs.specs.Sets.{empty, none, asSet}
 use Rattle.attrs.specs.Packed.{packed, updateAt}
 use Rattle.rules.specs.Sheet.{Item, like, kill, width}
 use Rattle.rules.specs.Places.{At, Move, stay, over, after, andThen, leftHalf, rightHalf, place}
-use Rattle.items.specs.declared.head.Head.{Head}
-use Rattle.items.specs.declared.word.Content.{Content}
-use Rattle.items.specs.declared.word.Content.the-variants.{Text, Embed, Mark}
-use Rattle.items.specs.Word.{unpackOf}
-use Rattle.items.specs.Chain.{END, itemAt, chain, walks, headOr, lastOr}
+use Rattle.layout.specs.declared.head.Head.{Head}
+use Rattle.layout.specs.declared.word.Content.{Content}
+use Rattle.layout.specs.declared.word.Content.the-variants.{Text, Embed, Mark}
+use Rattle.layout.specs.Word.{unpackOf}
+use Rattle.layout.specs.Chain.{END, itemAt, chain, walks, headOr, lastOr}
 use Rattle.arena.specs.declared.Place.{Place}
 
 -- How many words a working copy has: 2,048, and room for what one edit can make.

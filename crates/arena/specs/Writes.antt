@@ -6,13 +6,13 @@ use lib.ListN.{getD, set, take, drop}
 use lib.Dec.{eqb}
 use Rattle.rules.specs.Sheet as Sheet
 use Rattle.rules.specs.Sheet.{What, text, embed, mark}
-use Rattle.items.specs.declared.head.Head.{Head}
-use Rattle.items.specs.declared.word.Content.{Content}
-use Rattle.items.specs.declared.word.Content.the-variants.{Text, Embed, Mark}
-use Rattle.items.specs.declared.word.Item.{Item}
-use Rattle.items.specs.Word.{unpackOf, packOf, relinkOf}
-use Rattle.items.specs.Chain.{END, nextAt}
-use Rattle.items.specs.Heads.{grownHead}
+use Rattle.layout.specs.declared.head.Head.{Head}
+use Rattle.layout.specs.declared.word.Content.{Content}
+use Rattle.layout.specs.declared.word.Content.the-variants.{Text, Embed, Mark}
+use Rattle.layout.specs.declared.word.Item.{Item}
+use Rattle.layout.specs.Word.{unpackOf, packOf, relinkOf}
+use Rattle.layout.specs.Chain.{END, nextAt}
+use Rattle.layout.specs.Heads.{grownHead}
 
 -- ---- a new item
 

@@ -2,16 +2,16 @@
 ghost use mathlib.Core.Path.{_≡_};
 ghost use Prim.Native.Nat.{_<_};
 ghost use Rattle.rules.specs.Sheet.{width};
-ghost use Rattle.items.specs.Word.{whatOf};
+ghost use Rattle.layout.specs.Word.{whatOf};
 ghost use Rattle.arena.specs.Places.{SIZE, Arena, Carried, startOf, placing};
 use crate::At;
 use crate::Place;
 use crate::forward;
 use crate::writes::split;
-use items::calls::shown_len;
-use items::head::Head;
-use items::word::Content;
-use items::word::unpack;
+use items::shown_len;
+use layout::head::Head;
+use layout::word::Content;
+use layout::word::unpack;
 
 // How many units long.
 pub fn width(c: Content) -> u32

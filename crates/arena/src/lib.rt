@@ -4,9 +4,9 @@ ghost use Prim.Native.Nat.{_-_, _<_, _≤_};
 ghost use lib.ListN.{length};
 ghost use Rattle.arena.specs.Places.{startOf, passedForce, forwardOf, keptPlace};
 use attrs::Attrs;
-use items::head::Head;
-use items::word::Content;
-use items::word::unpack;
+use layout::head::Head;
+use layout::word::Content;
+use layout::word::unpack;
 
 pub mod writes; // what is written into it
 pub mod copies; // from a sheet into it, and back

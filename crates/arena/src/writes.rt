@@ -3,18 +3,18 @@ ghost use mathlib.Core.Path.{_≡_};
 ghost use Prim.Native.Nat.{_<_, _≤_};
 ghost use lib.ListN.{length, getD};
 ghost use Rattle.rules.specs.Edits.{putNew};
-ghost use Rattle.items.specs.Word.{whatOf, unpackOf};
+ghost use Rattle.layout.specs.Word.{whatOf, unpackOf};
 ghost use Rattle.arena.specs.Places.{SIZE, Linkable, Carried, Puttable, Cuttable, halving};
 ghost use Rattle.arena.specs.Writes.{putMem, putHead, killMem, leftText, rightText, Within, cutMem, cutHead};
 use crate::At;
 use crate::Place;
 use crate::passed;
-use items::head::Head;
-use items::word::Content;
-use items::word::Item;
-use items::word::pack;
-use items::word::relink;
-use items::word::unpack;
+use layout::head::Head;
+use layout::word::Content;
+use layout::word::Item;
+use layout::word::pack;
+use layout::word::relink;
+use layout::word::unpack;
 
 // A new item between two neighbours, or before the first.
 fn put_after(h: Head, items: &mut [u64], left: u32, right: u32, content: Content) -> Head

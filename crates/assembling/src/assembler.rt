@@ -12,13 +12,13 @@ use crate::runs::starts;
 use attrs::Attrs;
 use encoding::Found;
 use encoding::MaybeOp;
-use items::word::Content;
+use layout::word::Content;
 use ops::delta::Inserted;
 use ops::delta::Op;
 ghost use mathlib.Core.Path.{_≡_};
 ghost use Prim.Native.Nat.{_+_, _<_};
 ghost use Rattle.rules.specs.Sheet.{width};
-ghost use Rattle.items.specs.Word.{whatOf};
+ghost use Rattle.layout.specs.Word.{whatOf};
 ghost use Rattle.encoding.specs.Words.{noneFound};
 ghost use Rattle.assembling.specs.Steps.{load, actionOp, turnedBy, textBy, embedBy, markBy, passBy, freshAsm};
 

@@ -1,5 +1,5 @@
 // The run that grows, and what an item that is seen, before or now, does to it.
-use items::word::Item;
+use layout::word::Item;
 ghost use mathlib.Core.Path.{_≡_};
 ghost use Prim.Native.Nat.{_+_, _<_};
 ghost use Rattle.rules.specs.Reading.{before};

@@ -7,17 +7,17 @@ use crate::say::say_units;
 use attrs::Attrs;
 use encoding::Found;
 use encoding::op_at;
-use items::head::Head;
-use items::word::Content;
-use items::word::Item;
-use items::word::unpack;
+use layout::head::Head;
+use layout::word::Content;
+use layout::word::Item;
+use layout::word::unpack;
 use ops::delta::Inserted;
 use ops::delta::Op;
 use runs::run::Run;
 
 fn say_len(h: Head, items: &[u64], units: &[u16]) {
     say(b"len ");
-    say_number(items::calls::len(h, items, units).len as u64);
+    say_number(items::len(h, items, units).len as u64);
     say(b"\n");
 }
 
@@ -118,7 +118,7 @@ fn say_content(h: Head, items: &[u64], units: &[u16], at: u32, content: Content)
     match content {
         Content::Text { start: _, len: _ } => {
             say(b"item text");
-            say_units(items::calls::text_of(h, items, units, at));
+            say_units(items::text_of(h, items, units, at));
         }
         Content::Embed(n) => {
             say(b"item embed ");

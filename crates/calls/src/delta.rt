@@ -4,7 +4,7 @@ use crate::say::say_refused;
 use crate::state::State;
 use crate::state::told;
 use deltas::apply::apply_delta;
-use items::head::Head;
+use layout::head::Head;
 use lines::deltas::AskedDelta;
 use lines::deltas::read_delta;
 

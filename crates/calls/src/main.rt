@@ -8,7 +8,7 @@ mod names; // a line for the table
 mod edit; // one line's call
 mod input; // lines from standard input
 
-use items::head::Head;
+use layout::head::Head;
 
 fn main() {
     let mut items = [0u64; 2048];

@@ -1,7 +1,7 @@
 // What is kept from line to line.
 use crate::say::say_refused;
-use items::calls::Answer;
-use items::head::Head;
+use items::Answer;
+use layout::head::Head;
 use table::TableHead;
 
 // The heads of the sheet and of the table, and whether a call was made.

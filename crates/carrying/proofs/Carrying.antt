@@ -13,8 +13,8 @@ use Rattle.rules.specs.Places.{At, whole}
 use Rattle.rules.specs.Edits.{insertWith}
 use Rattle.rules.specs.Delta.{newText, newEmbed, insertHere, carryOut}
 use Rattle.laws.proofs.Makes.{carry-longer}
-use Rattle.items.specs.declared.head.Head.{Head}
-use Rattle.items.proofs.Links.{length-chain}
+use Rattle.layout.specs.declared.head.Head.{Head}
+use Rattle.layout.proofs.Links.{length-chain}
 use Rattle.arena.specs.declared.Place.{Place}
 use Rattle.arena.specs.Places.{placed, Standing, Carried}
 use Rattle.arena.proofs.Carried.{carried-stay, carried-as}

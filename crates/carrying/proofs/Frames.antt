@@ -8,7 +8,7 @@ use Rattle.rules.specs.Sheet.{Item}
 use Rattle.rules.specs.Reading.{Op}
 use Rattle.rules.specs.Places.{At, whole, stay}
 use Rattle.rules.specs.Delta.{Given, carryOut, delta}
-use Rattle.items.specs.declared.head.Head.{Head}
+use Rattle.layout.specs.declared.head.Head.{Head}
 use Rattle.arena.specs.declared.Place.{Place}
 use Rattle.arena.specs.Places.{Arena, Standing, listOf, placed, startOf}
 use Rattle.arena.proofs.Steps.{start-stands}

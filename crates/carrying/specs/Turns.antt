@@ -7,7 +7,7 @@ use Rattle.attrs.specs.Packed.{says}
 use Rattle.rules.specs.Reading as rules
 use Rattle.rules.specs.Places.{At, Move, whole}
 use Rattle.rules.specs.Delta.{Given, newText, newEmbed, move}
-use Rattle.items.specs.declared.head.Head.{Head}
+use Rattle.layout.specs.declared.head.Head.{Head}
 use Rattle.ops.specs.declared.delta.Inserted.{Inserted}
 use Rattle.ops.specs.declared.delta.Inserted.the-variants.{Text, Embed}
 use Rattle.ops.specs.declared.delta.Op.{Op}

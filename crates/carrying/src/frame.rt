@@ -2,15 +2,15 @@
 ghost use mathlib.Core.Path.{_≡_};
 ghost use Prim.Native.Nat.{_+_, _≤_};
 ghost use Rattle.rules.specs.Delta.{delta};
-ghost use Rattle.items.specs.Memory.{listOf};
+ghost use Rattle.layout.specs.Memory.{listOf};
 ghost use Rattle.changes.specs.Frame.{left, granted, Loadable};
 ghost use Rattle.carrying.specs.Turns.{laid, bringing, given};
 use crate::turns::carry_out;
 use arena::At;
 use arena::Place;
 use arena::copies::copy;
-use items::calls::Answer;
-use items::head::Head;
+use items::Answer;
+use layout::head::Head;
 use ops::delta::Delta;
 
 // 4 is decided by what the operations made, while the sheet is still untouched. `used` is how many units it has in use afterwards.

@@ -11,13 +11,13 @@ use Rattle.rules.specs.Places.{whole, stay}
 use Rattle.rules.specs.Calls.{Sheet, Outcome, refuse, roomy, Call, call}
 use Rattle.rules.specs.Rulings.{Ruling, asIs, ruling, ruled, decided}
 use Rattle.laws.proofs.Rulings.{call-is}
-use Rattle.items.specs.declared.head.Head.{Head}
-use Rattle.items.specs.Chain.{headOr}
-use Rattle.items.specs.Heads.{grownHead}
-use Rattle.items.specs.Memory.{listOf, modelOf, soundOf, stored, storedUnits, Carried, keptAll, storedAll, landed, carryBy, carry}
-use Rattle.items.proofs.Soundness.{sound-parts}
+use Rattle.layout.specs.declared.head.Head.{Head}
+use Rattle.layout.specs.Chain.{headOr}
+use Rattle.layout.specs.Heads.{grownHead}
+use Rattle.layout.specs.Memory.{listOf, modelOf, soundOf, stored, storedUnits, Carried, keptAll, storedAll, landed, carryBy, carry}
+use Rattle.layout.proofs.Soundness.{sound-parts}
 use Rattle.items.proofs.Carries.{carry-broken}
-use Rattle.items.proofs.Models.{used-length, model-sound, sound-head, sound-stored, sound-units}
+use Rattle.layout.proofs.Models.{used-length, model-sound, sound-head, sound-stored, sound-units}
 use Rattle.changes.specs.Frame.{Left, granted}
 
 pub carry-unsound : (c : Call) (h : Head) (m u : List ℕ) → soundOf h m u ≡ false → keptAll 9 h m u ≡ carry c h m u

@@ -7,16 +7,16 @@ use mathlib.Core.List.{List}
 use lib.Dec.{eqb}
 use lib.ListN.{length, getD, take}
 use Rattle.rules.specs.Sheet.{What}
-use Rattle.items.specs.declared.head.Head.{Head}
-use Rattle.items.specs.declared.word.Content.{Content}
-use Rattle.items.specs.declared.word.Content.the-variants.{Text, Embed, Mark}
-use Rattle.items.specs.Word.{whatOf, contentFrom, unpackOf, Fitting}
-use Rattle.items.specs.Chain.{itemFrom}
-use Rattle.items.specs.Memory.{Sound, whatOk, wordOk, soundOf}
-use Rattle.items.proofs.Words.{fitting-unpack}
-use Rattle.items.proofs.Soundness.{sound-parts, piece-parts, mark-parts, word-parts}
-use Rattle.items.proofs.Stored.{range-parts}
-use Rattle.items.proofs.Models.{used-length, model-sound, sound-word}
+use Rattle.layout.specs.declared.head.Head.{Head}
+use Rattle.layout.specs.declared.word.Content.{Content}
+use Rattle.layout.specs.declared.word.Content.the-variants.{Text, Embed, Mark}
+use Rattle.layout.specs.Word.{whatOf, contentFrom, unpackOf, Fitting}
+use Rattle.layout.specs.Chain.{itemFrom}
+use Rattle.layout.specs.Memory.{Sound, whatOk, wordOk, soundOf}
+use Rattle.layout.proofs.Words.{fitting-unpack}
+use Rattle.layout.proofs.Soundness.{sound-parts, piece-parts, mark-parts, word-parts}
+use Rattle.layout.proofs.Stored.{range-parts}
+use Rattle.layout.proofs.Models.{used-length, model-sound, sound-word}
 use Rattle.arena.specs.Places.{InRange, Neat}
 use Rattle.cuts.specs.Cuts.{Readable}
 use Rattle.changes.specs.Frame.{Loadable}

@@ -12,15 +12,15 @@ use Rattle.attrs.specs.Sets.{Set, none}
 use Rattle.rules.specs.Sheet.{Item}
 use Rattle.rules.specs.Places.{At, Move, whole, andThen}
 use Rattle.rules.specs.Edits.{byIndex}
-use Rattle.items.specs.declared.head.Head.{Head}
-use Rattle.items.specs.Word.{inRange}
-use Rattle.items.specs.Chain.{END, chain, headOr}
-use Rattle.items.specs.Heads.{grownHead}
-use Rattle.items.specs.Memory.{listOf, Sound, stored}
-use Rattle.items.proofs.Links.{distinct, head-is, length-chain}
-use Rattle.items.proofs.Numbers.{Once, once, walk-below}
-use Rattle.items.proofs.Stored.{each-all, stored-same}
-use Rattle.items.proofs.Copies.{copy-back}
+use Rattle.layout.specs.declared.head.Head.{Head}
+use Rattle.layout.specs.Word.{inRange}
+use Rattle.layout.specs.Chain.{END, chain, headOr}
+use Rattle.layout.specs.Heads.{grownHead}
+use Rattle.layout.specs.Memory.{listOf, Sound, stored}
+use Rattle.layout.proofs.Links.{distinct, head-is, length-chain}
+use Rattle.layout.proofs.Numbers.{Once, once, walk-below}
+use Rattle.layout.proofs.Stored.{each-all, stored-same}
+use Rattle.layout.proofs.Copies.{copy-back}
 use Rattle.arena.specs.declared.Place.{Place}
 use Rattle.arena.specs.Places.{SIZE, Neat, Arena, placed, Carried, inTurn, placing, startOf}
 use Rattle.arena.specs.Writes.{copied}

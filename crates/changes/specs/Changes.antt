@@ -5,9 +5,9 @@ use Rattle.attrs.specs.Sets.{Set}
 use Rattle.rules.specs.Sheet.{text, embed}
 use Rattle.rules.specs.Places.{Move}
 use Rattle.rules.specs.Edits.{plainText, plainEmbed, insertWith, format, removeHere}
-use Rattle.items.specs.declared.word.Content.{Content}
-use Rattle.items.specs.declared.word.Content.the-variants.{Text, Embed, Mark}
-use Rattle.items.specs.Word.{whatOf}
+use Rattle.layout.specs.declared.word.Content.{Content}
+use Rattle.layout.specs.declared.word.Content.the-variants.{Text, Embed, Mark}
+use Rattle.layout.specs.Word.{whatOf}
 use Rattle.arena.specs.Places.{InRange}
 use Rattle.changes.specs.declared.change.Change.{Change}
 use Rattle.changes.specs.declared.change.Change.the-variants.{PlainText, PlainEmbed, With, Format, Remove}

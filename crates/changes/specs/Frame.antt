@@ -6,11 +6,11 @@ use mathlib.Core.List.{List}
 use lib.Dec.{leb}
 use lib.ListN.{length, getD}
 use Rattle.rules.specs.Places.{At, whole}
-use Rattle.items.specs.declared.head.Head.{Head}
-use Rattle.items.specs.declared.calls.Answer.{Answer}
-use Rattle.items.specs.Chain.{walks, headOr}
-use Rattle.items.specs.Heads.{grownHead}
-use Rattle.items.specs.Memory.{stored, listOf, Carried}
+use Rattle.layout.specs.declared.head.Head.{Head}
+use Rattle.items.specs.declared.Answer.{Answer}
+use Rattle.layout.specs.Chain.{walks, headOr}
+use Rattle.layout.specs.Heads.{grownHead}
+use Rattle.layout.specs.Memory.{stored, listOf, Carried}
 use Rattle.arena.specs.Places.{Neat, Arena}
 
 -- What a call leaves, as `carry` says it: what it answers, and both buffers.

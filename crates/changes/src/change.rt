@@ -2,7 +2,7 @@
 ghost use Prim.Native.Nat.{_+_, _≤_};
 ghost use Rattle.attrs.specs.Packed.{says};
 ghost use Rattle.rules.specs.Edits.{byIndex};
-ghost use Rattle.items.specs.Memory.{listOf};
+ghost use Rattle.layout.specs.Memory.{listOf};
 ghost use Rattle.arena.specs.Places.{SIZE, Arena, Standing, Carried};
 ghost use Rattle.changes.specs.Changes.{moveOf, Ready};
 ghost use Rattle.changes.specs.Frame.{Worked};
@@ -14,8 +14,8 @@ use attrs::Attrs;
 use edits::format::insert_format;
 use edits::insert::insert;
 use edits::insert::insert_plain;
-use items::head::Head;
-use items::word::Content;
+use layout::head::Head;
+use layout::word::Content;
 use removal::remove_here;
 
 // The attribute set lies beside it.

@@ -3,15 +3,15 @@ ghost use mathlib.Core.Path.{_≡_};
 ghost use Prim.Native.Nat.{_≤_};
 ghost use Rattle.attrs.specs.Packed.{says};
 ghost use Rattle.rules.specs.Edits.{byIndex};
-ghost use Rattle.items.specs.Memory.{listOf};
+ghost use Rattle.layout.specs.Memory.{listOf};
 ghost use Rattle.changes.specs.Changes.{moveOf, Ready};
 ghost use Rattle.changes.specs.Frame.{left, granted, Loadable};
 use crate::change::Change;
 use crate::change::change_by_index;
 use arena::copies::copy;
 use attrs::Attrs;
-use items::calls::Answer;
-use items::head::Head;
+use items::Answer;
+use layout::head::Head;
 
 // The working copy has room for whatever one edit makes, so that 4 is decided by what it made and the sheet is still untouched.
 // `used` is how many units the sheet has in use afterwards.

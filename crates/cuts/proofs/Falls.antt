@@ -10,10 +10,10 @@ use borrow.Author.Tests.{lt-ltb, le-ltb}
 use Rattle.rules.specs.Sheet.{What, text, embed, mark}
 use Rattle.rules.specs.Places.{uses}
 use Rattle.rules.specs.Sound.{AllFit, Fits}
-use Rattle.items.specs.Word.{whatOf, unpackOf}
+use Rattle.layout.specs.Word.{whatOf, unpackOf}
 use Rattle.items.specs.Calls.{shownLen}
-use Rattle.items.specs.Chain.{itemAt, nextAt, chain}
-use Rattle.items.proofs.Links.{chain-step}
+use Rattle.layout.specs.Chain.{itemAt, nextAt, chain}
+use Rattle.layout.proofs.Links.{chain-step}
 use Rattle.cuts.specs.Cuts.{cutsPiece, cutAt, Lies}
 
 lies : (n : ℕ) (w : What) → Fits n w → Lies n w

@@ -3,13 +3,13 @@ ghost use mathlib.Core.Path.{_≡_};
 ghost use lib.ListN.{length};
 ghost use Rattle.units.specs.Surrogates.{splitsPair};
 ghost use Rattle.rules.specs.Calls.{visibleUnits};
-ghost use Rattle.items.specs.Word.{whatOf};
-ghost use Rattle.items.specs.Memory.{listOf};
+ghost use Rattle.layout.specs.Word.{whatOf};
+ghost use Rattle.layout.specs.Memory.{listOf};
 ghost use Rattle.cuts.specs.Cuts.{cutsPiece, Lies, Readable};
-use items::calls::shown_len;
-use items::head::Head;
-use items::word::Content;
-use items::word::unpack;
+use items::shown_len;
+use layout::head::Head;
+use layout::word::Content;
+use layout::word::unpack;
 
 fn cuts_piece(c: Content, used: &[u16], index: u32) -> bool
     requires { ⌜ Lies (length (now used)) (whatOf c) ⌝ }

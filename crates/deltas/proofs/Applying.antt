@@ -7,10 +7,10 @@ use lib.ListN.{length, take, length-append}
 use Rattle.rules.specs.Reading.{Op}
 use Rattle.rules.specs.Delta.{Given, delta}
 use Rattle.rules.specs.Calls.{applyDelta, laidOut, newUnits}
-use Rattle.items.specs.declared.head.Head.{Head}
-use Rattle.items.specs.Memory.{listOf, soundOf, Carried, keptAll, carry}
-use Rattle.items.proofs.Soundness.{sound-parts}
-use Rattle.items.proofs.Models.{used-length}
+use Rattle.layout.specs.declared.head.Head.{Head}
+use Rattle.layout.specs.Memory.{listOf, soundOf, Carried, keptAll, carry}
+use Rattle.layout.proofs.Soundness.{sound-parts}
+use Rattle.layout.proofs.Models.{used-length}
 use Rattle.changes.specs.Frame.{Left, granted}
 use Rattle.ops.specs.declared.delta.Delta.{Delta}
 use Rattle.ops.specs.Ops.{opsOf}

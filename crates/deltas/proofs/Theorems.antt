@@ -14,10 +14,10 @@ use Rattle.rules.specs.Calls.{Sheet, Body, Call, applyDelta, call, AllPaired}
 use Rattle.rules.specs.Rulings.{unwhole, inPair, tooFar, crowded, Exactly, FineSet, Byte, FineOps}
 use Rattle.rules.specs.Shows.{shows}
 use Rattle.laws.proofs.Lists.{In}
-use Rattle.items.specs.declared.head.Head.{Head}
-use Rattle.items.specs.Memory.{listOf, modelOf, soundOf, Carried, keptAll, carry}
-use Rattle.items.proofs.Soundness.{sound-parts}
-use Rattle.items.proofs.Models.{model-sound}
+use Rattle.layout.specs.declared.head.Head.{Head}
+use Rattle.layout.specs.Memory.{listOf, modelOf, soundOf, Carried, keptAll, carry}
+use Rattle.layout.proofs.Soundness.{sound-parts}
+use Rattle.layout.proofs.Models.{model-sound}
 use Rattle.sheet.proofs.Theorems as sheet
 use Rattle.ops.specs.declared.delta.Inserted.the-variants.{Text, Embed}
 use Rattle.ops.specs.declared.delta.Op.{Op}

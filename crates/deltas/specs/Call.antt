@@ -5,8 +5,8 @@ use mathlib.Core.List.{List}
 use lib.Dec.{ltb}
 use lib.ListN.{length}
 use Rattle.rules.specs.Calls.{applyDelta}
-use Rattle.items.specs.declared.head.Head.{Head}
-use Rattle.items.specs.Memory.{soundOf, Carried, keptAll, carry}
+use Rattle.layout.specs.declared.head.Head.{Head}
+use Rattle.layout.specs.Memory.{soundOf, Carried, keptAll, carry}
 use Rattle.ops.specs.declared.delta.Delta.{Delta}
 use Rattle.ops.specs.Ops.{opsOf}
 use Rattle.deltas.specs.Checks.{manyOf}

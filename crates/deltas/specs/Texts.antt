@@ -2,7 +2,7 @@
 use Prim.Native.Nat.{ℕ}
 use mathlib.Core.List.{List, [], _++_}
 use lib.ListN.{take, drop}
-use Rattle.items.specs.Memory.{storedUnits}
+use Rattle.layout.specs.Memory.{storedUnits}
 use Rattle.ops.specs.declared.delta.Inserted.{Inserted}
 use Rattle.ops.specs.declared.delta.Inserted.the-variants.{Text, Embed}
 use Rattle.ops.specs.declared.delta.Op.{Op}

@@ -4,7 +4,7 @@ ghost use mathlib.Core.Bool.{true, false};
 ghost use lib.ListN.{length};
 ghost use Rattle.rules.specs.Calls.{applyDelta, check};
 ghost use Rattle.rules.specs.Rulings.{seen};
-ghost use Rattle.items.specs.Memory.{soundOf, modelOf, carry};
+ghost use Rattle.layout.specs.Memory.{soundOf, modelOf, carry};
 ghost use Rattle.ops.specs.Ops.{opsOf};
 ghost use Rattle.changes.specs.Frame.{leaving};
 ghost use Rattle.deltas.specs.Checks.{manyOf};
@@ -14,11 +14,11 @@ use crate::checks::many;
 use crate::checks::total;
 use crate::faults::fault;
 use carrying::frame::carry_all;
-use items::calls::Answer;
-use items::calls::visible_len;
-use items::head::Head;
-use items::sound::sound;
+use items::Answer;
+use items::visible_len;
+use layout::head::Head;
 use ops::delta::Delta;
+use soundness::sound;
 
 fn short_scratch(items: &[u64], units: &[u16]) -> bool
     ensures { λ r. ⌜ r ≡ shortScratch (length (now (items .entry))) (length (now (units .entry))) ⌝ }

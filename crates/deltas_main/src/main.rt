@@ -2,13 +2,13 @@
 // item with its number (`-` behind the number: deleted), units in four hexadecimal digits.
 use attrs::Attrs;
 use deltas::apply::apply_delta;
-use items::calls::Answer;
-use items::calls::len;
-use items::calls::text_of;
-use items::head::Head;
-use items::word::Content;
-use items::word::Item;
-use items::word::unpack;
+use items::Answer;
+use items::len;
+use items::text_of;
+use layout::head::Head;
+use layout::word::Content;
+use layout::word::Item;
+use layout::word::unpack;
 use ops::delta::Delta;
 use ops::delta::DeltaOp;
 use ops::delta::Inserted;

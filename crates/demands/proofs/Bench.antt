@@ -14,11 +14,11 @@ use Rattle.rules.specs.Turns.{moving, deleting, refusing, showing}
 use Rattle.rules.specs.Pieces.{starred, bench}
 use Rattle.laws.proofs.Calls.{fresh-sound}
 use Rattle.laws.proofs.Transaction.{FineCalls}
-use Rattle.items.specs.Chain.{headOr}
-use Rattle.items.specs.Heads.{freshHead}
-use Rattle.items.specs.Memory.{stored}
-use Rattle.items.proofs.Soundness.{sound-whole}
-use Rattle.items.proofs.Models.{stored-sound, stored-model}
+use Rattle.layout.specs.Chain.{headOr}
+use Rattle.layout.specs.Heads.{freshHead}
+use Rattle.layout.specs.Memory.{stored}
+use Rattle.layout.proofs.Soundness.{sound-whole}
+use Rattle.layout.proofs.Models.{stored-sound, stored-model}
 use Rattle.demands.specs.Steps.{Step, after, freshState, sound, model, does, numbers, callsOf}
 use Rattle.demands.specs.Bench.{answerBy, startIn, afterCalls, playedIn}
 use Rattle.demands.proofs.Bridge.{after-sound, after-model, numbers-ruled}

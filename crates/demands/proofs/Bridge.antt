@@ -12,12 +12,12 @@ use Rattle.rules.specs.Rulings.{FineCall}
 use Rattle.rules.specs.PieceParts.{after as ruledAfter, refusals}
 use Rattle.laws.proofs.Calls.{call-refused}
 use Rattle.laws.proofs.Transaction.{FineCalls}
-use Rattle.items.specs.declared.head.Head.{Head}
-use Rattle.items.specs.declared.calls.Answer.{Answer}
+use Rattle.layout.specs.declared.head.Head.{Head}
+use Rattle.items.specs.declared.Answer.{Answer}
 use Rattle.items.specs.Calls.{answerOf}
-use Rattle.items.specs.Memory.{soundOf, Carried, keptAll, carry}
-use Rattle.items.proofs.Soundness.{sound-parts}
-use Rattle.items.proofs.Models.{model-sound, sound-units}
+use Rattle.layout.specs.Memory.{soundOf, Carried, keptAll, carry}
+use Rattle.layout.proofs.Soundness.{sound-parts}
+use Rattle.layout.proofs.Models.{model-sound, sound-units}
 use Rattle.items.proofs.Carries.{carry-broken, carry-refused, carry-done}
 use Rattle.sheet.proofs.Theorems.{refusal-is, leaves-sound, leaves-model}
 use Rattle.demands.specs.Steps.{State, sound, model, Step, does, turned, answered, left, after, numbers, begun, callsOf, deltaStep}

@@ -18,8 +18,8 @@ use Rattle.rules.specs.PieceParts.{after as ruledAfter}
 use Rattle.laws.proofs.Lists.{In, here, there, map-append}
 use Rattle.laws.proofs.Calls.{call-cases, call-sound, ruling-units}
 use Rattle.laws.proofs.Transaction.{FineCalls}
-use Rattle.items.proofs.Soundness.{sound-parts}
-use Rattle.items.proofs.Models.{used-length, model-sound}
+use Rattle.layout.proofs.Soundness.{sound-parts}
+use Rattle.layout.proofs.Models.{used-length, model-sound}
 use Rattle.events.specs.Told.{Ops}
 use Rattle.demands.specs.Steps.{State, sound, model, Step, after, callsOf}
 use Rattle.demands.specs.Written.{spelled, spelledCell, spelledOp}

@@ -16,7 +16,7 @@ use Rattle.ops.specs.declared.delta.Op.the-variants.{Insert, Delete, Retain}
 use Rattle.ops.specs.declared.delta.DeltaOp.{DeltaOp}
 use Rattle.ops.specs.declared.delta.Delta.{Delta}
 use Rattle.ops.specs.Ops.{opFor, opOf, opsOf}
-use Rattle.items.specs.declared.head.Head.{Head}
+use Rattle.layout.specs.declared.head.Head.{Head}
 use Rattle.sheet.proofs.Theorems.{says-fine}
 use Rattle.deltas.specs.Checks.{manyOf}
 use Rattle.deltas.specs.Call.{shortScratch, carryDelta}

@@ -7,9 +7,9 @@ use Rattle.rules.specs.Reading.{visible}
 use Rattle.rules.specs.Rulings.{Within, ruling, ruled, FineCall}
 use Rattle.laws.proofs.Calls.{call-accepted}
 use Rattle.laws.proofs.Shows.{call-length}
-use Rattle.items.specs.Memory.{Carried, keptAll, storedAll}
-use Rattle.items.proofs.Soundness.{sound-parts}
-use Rattle.items.proofs.Models.{model-sound}
+use Rattle.layout.specs.Memory.{Carried, keptAll, storedAll}
+use Rattle.layout.proofs.Soundness.{sound-parts}
+use Rattle.layout.proofs.Models.{model-sound}
 use Rattle.items.proofs.Carries.{carry-done}
 use Rattle.sheet.proofs.Theorems.{refusal-is, refused-exactly, broken-exactly, refused-keeps, leaves-sound, leaves-pairs, leaves-cells}
 use Rattle.demands.specs.Steps.{State, sound, model, Step, does, turned, answered, left}

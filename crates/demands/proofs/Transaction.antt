@@ -12,8 +12,8 @@ use Rattle.rules.specs.Calls.{Sheet, Call, beginNow, call}
 use Rattle.rules.specs.Rulings.{SoundSheet}
 use Rattle.rules.specs.PieceParts.{after as ruledAfter}
 use Rattle.laws.proofs.Transaction.{Edits, FineCalls, transaction, transaction-tells}
-use Rattle.items.proofs.Soundness.{sound-parts}
-use Rattle.items.proofs.Models.{model-sound}
+use Rattle.layout.proofs.Soundness.{sound-parts}
+use Rattle.layout.proofs.Models.{model-sound}
 use Rattle.sheet.proofs.Theorems.{leaves-sound}
 use Rattle.events.specs.Told.{Ops, encoded, texts}
 use Rattle.events.specs.Given.{Given, refusal, refused, gives, fitsIn, given, atFront}

@@ -11,7 +11,7 @@ use Rattle.rules.specs.Scripts.{Tells}
 use Rattle.rules.specs.Calls.{Call, AllPaired}
 use Rattle.rules.specs.Rulings.{ruling, ruled, unwhole, inPair, tooFar, crowded, Exactly, FineCall}
 use Rattle.rules.specs.Shows.{shows, lengthAfter}
-use Rattle.items.specs.Memory.{storedAll}
+use Rattle.layout.specs.Memory.{storedAll}
 use Rattle.events.specs.Told.{Ops}
 use Rattle.events.specs.Given.{refusal, fitsIn}
 use Rattle.demands.specs.Steps as steps

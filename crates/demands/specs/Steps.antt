@@ -4,9 +4,9 @@ use mathlib.Core.Bool.{Bool, cond}
 use mathlib.Core.List.{List, [], _∷_}
 use Rattle.rules.specs.Reading.{Op}
 use Rattle.rules.specs.Calls.{Sheet, Body, Call, applyDelta, beginNow}
-use Rattle.items.specs.declared.head.Head.{Head}
-use Rattle.items.specs.Heads.{freshHead}
-use Rattle.items.specs.Memory.{modelOf, soundOf, Carried, keptAll, carry}
+use Rattle.layout.specs.declared.head.Head.{Head}
+use Rattle.layout.specs.Heads.{freshHead}
+use Rattle.layout.specs.Memory.{modelOf, soundOf, Carried, keptAll, carry}
 
 -- What a caller holds: the head, and both buffers.
 pub record State : Type 0 where

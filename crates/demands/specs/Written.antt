@@ -5,7 +5,7 @@ use lib.ListN.{length, getD, take, drop}
 use Rattle.attrs.specs.declared.Attrs.{Attrs}
 use Rattle.attrs.specs.Packed.{says}
 use Rattle.rules.specs.Reading.{live, before, Glyph, unit, thing, Cell, cells, Op, insert, delete, retain}
-use Rattle.items.specs.Memory.{listOf}
+use Rattle.layout.specs.Memory.{listOf}
 use Rattle.ops.specs.declared.delta.Inserted.{Inserted}
 use Rattle.ops.specs.declared.delta.Inserted.the-variants.{Text, Embed}
 use Rattle.ops.specs.declared.delta.Op.{Op as Kind}

@@ -11,11 +11,11 @@ use Rattle.attrs.specs.Sets.{Set, Env, keys, bare}
 use Rattle.rules.specs.Sheet.{What, text, embed, mark, Item, dead, kill, width, isMark}
 use Rattle.rules.specs.Places.{At, Move, over, stay, split, andThen, after, close}
 use Rattle.rules.specs.Edits.{keyIn, remember, closing, walking, formatWalk}
-use Rattle.items.specs.declared.word.Content.{Content}
-use Rattle.items.specs.declared.word.Content.the-variants.{Mark}
-use Rattle.items.specs.declared.head.Head.{Head}
-use Rattle.items.specs.Word.{whatOf, unpackOf}
-use Rattle.items.specs.Chain.{itemFrom, itemAt}
+use Rattle.layout.specs.declared.word.Content.{Content}
+use Rattle.layout.specs.declared.word.Content.the-variants.{Mark}
+use Rattle.layout.specs.declared.head.Head.{Head}
+use Rattle.layout.specs.Word.{whatOf, unpackOf}
+use Rattle.layout.specs.Chain.{itemFrom, itemAt}
 use Rattle.arena.specs.declared.Place.{Place}
 use Rattle.arena.specs.Places.{InRange, Neat, Going, Carried, forwardOf, inTurn, ahead, halving}
 use Rattle.arena.specs.Writes.{killMem}

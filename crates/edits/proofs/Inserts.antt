@@ -9,7 +9,7 @@ use Rattle.attrs.proofs.Changes.{says-empty}
 use Rattle.rules.specs.Sheet.{What}
 use Rattle.rules.specs.Places.{after, settle}
 use Rattle.rules.specs.Edits.{putNew, plainText, settled, closing, putClose, insertWith}
-use Rattle.items.specs.declared.head.Head.{Head}
+use Rattle.layout.specs.declared.head.Head.{Head}
 use Rattle.arena.specs.declared.Place.{Place}
 use Rattle.arena.specs.Places.{leftOf, rightOf, Standing, Carried}
 use Rattle.arena.proofs.Carried.{carried-then, carried-as}

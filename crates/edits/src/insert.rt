@@ -2,14 +2,14 @@
 ghost use Prim.Native.Nat.{_+_, _≤_};
 ghost use Rattle.attrs.specs.Packed.{says};
 ghost use Rattle.rules.specs.Edits.{plainText, insertWith};
-ghost use Rattle.items.specs.Word.{whatOf};
+ghost use Rattle.layout.specs.Word.{whatOf};
 ghost use Rattle.arena.specs.Places.{SIZE, InRange, Standing, Carried};
 use arena::At;
 use arena::Place;
 use arena::writes::put;
 use attrs::Attrs;
-use items::head::Head;
-use items::word::Content;
+use layout::head::Head;
+use layout::word::Content;
 use marks::insert_attributes;
 use marks::insert_negated_attributes;
 use marks::minimize_attr_changes;

@@ -13,10 +13,10 @@ use Rattle.rules.specs.Sound.{AllFit}
 use Rattle.rules.specs.Reading.{before, live}
 use Rattle.rules.specs.Event.{event, finish, fresh, toldUnits}
 use Rattle.laws.proofs.Fits.{event-fits}
-use Rattle.items.specs.declared.head.Head.{Head}
-use Rattle.items.specs.Memory.{listOf, soundOf, Sound}
-use Rattle.items.proofs.Soundness.{sound-parts}
-use Rattle.items.proofs.Models.{used-length, model-sound}
+use Rattle.layout.specs.declared.head.Head.{Head}
+use Rattle.layout.specs.Memory.{listOf, soundOf, Sound}
+use Rattle.layout.proofs.Soundness.{sound-parts}
+use Rattle.layout.proofs.Models.{used-length, model-sound}
 use Rattle.ops.specs.declared.delta.DeltaOp.{DeltaOp}
 use Rattle.encoding.specs.Words.{allWords}
 use Rattle.events.specs.declared.walk.Measure.{Measure}

@@ -10,10 +10,10 @@ use lib.Seq.{sets, length-sets}
 use Rattle.rules.specs.Sheet.{What, text, embed, mark, Item, width}
 use Rattle.rules.specs.Sound.{Fits, AllFit}
 use Rattle.rules.specs.Event.{Asm, fresh, addOp, step, told, toldUnits}
-use Rattle.items.specs.declared.head.Head.{Head}
-use Rattle.items.specs.Chain.{itemAt, nextAt, chain, walks}
-use Rattle.items.specs.Memory.{listOf}
-use Rattle.items.proofs.Links.{chain-step, walks-next}
+use Rattle.layout.specs.declared.head.Head.{Head}
+use Rattle.layout.specs.Chain.{itemAt, nextAt, chain, walks}
+use Rattle.layout.specs.Memory.{listOf}
+use Rattle.layout.proofs.Links.{chain-step, walks-next}
 use Rattle.ops.specs.declared.delta.DeltaOp.{DeltaOp}
 use Rattle.encoding.specs.declared.Found.{Found}
 use Rattle.encoding.specs.declared.Found.the-variants.{Is, Nothing}

@@ -13,10 +13,10 @@ use Rattle.rules.specs.Sound.{Fits, AllFit}
 use Rattle.rules.specs.Event.{event, finish, ahead, isPlain, Act, keep, drop, give, giving, script, fate, fates, inUnits, toldUnits}
 use Rattle.rules.specs.Scripts.{UpToKeeps}
 use Rattle.laws.proofs.Script.{event-says}
-use Rattle.items.specs.declared.head.Head.{Head}
-use Rattle.items.specs.Chain.{itemAt, nextAt, chain, walks}
-use Rattle.items.specs.Memory.{listOf}
-use Rattle.items.proofs.Links.{chain-step, walks-next}
+use Rattle.layout.specs.declared.head.Head.{Head}
+use Rattle.layout.specs.Chain.{itemAt, nextAt, chain, walks}
+use Rattle.layout.specs.Memory.{listOf}
+use Rattle.layout.proofs.Links.{chain-step, walks-next}
 use Rattle.events.specs.declared.fill.Piece.{Piece}
 use Rattle.assembling.specs.Steps.{wasBy, isBy}
 use Rattle.events.specs.Told.{Ops, unitsIn, unitsFor, texts}

@@ -6,8 +6,8 @@ use lib.Dec.{leb}
 use lib.ListN.{length, drop}
 use Rattle.rules.specs.Reading.{Seen}
 use Rattle.rules.specs.Event.{event, toldUnits}
-use Rattle.items.specs.declared.head.Head.{Head}
-use Rattle.items.specs.Memory.{listOf, soundOf}
+use Rattle.layout.specs.declared.head.Head.{Head}
+use Rattle.layout.specs.Memory.{listOf, soundOf}
 use Rattle.events.specs.declared.event.EventAnswer.{EventAnswer}
 use Rattle.events.specs.Told.{Ops, encoded, texts}
 

@@ -8,9 +8,9 @@ use Rattle.rules.specs.Sheet.{What, text, embed, mark, Item}
 use Rattle.rules.specs.Sound.{AllFit}
 use Rattle.rules.specs.Reading.{Glyph, unitsOf}
 use Rattle.rules.specs.Event.{Asm, gather, fresh, toldUnits}
-use Rattle.items.specs.declared.head.Head.{Head}
-use Rattle.items.specs.Chain.{walks}
-use Rattle.items.specs.Memory.{listOf}
+use Rattle.layout.specs.declared.head.Head.{Head}
+use Rattle.layout.specs.Chain.{walks}
+use Rattle.layout.specs.Memory.{listOf}
 use Rattle.events.specs.declared.walk.Measure.{Measure}
 use Rattle.events.specs.declared.fill.Piece.{Piece}
 use Rattle.assembling.specs.Steps.{wasBy, isBy}

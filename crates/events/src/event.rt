@@ -1,8 +1,8 @@
 // The event of the current transaction, into lent numbers and lent units of any length.
 use crate::fill::fill;
 use crate::walk::walk;
-use items::head::Head;
-use items::sound::sound;
+use layout::head::Head;
+use soundness::sound;
 ghost use mathlib.Core.Path.{_≡_};
 ghost use lib.ListN.{length};
 ghost use Rattle.rules.specs.Reading.{before, live};

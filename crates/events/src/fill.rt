@@ -1,16 +1,16 @@
 // The units that an event inserts, one text after the other.
 use assembling::runs::Sight;
 use assembling::runs::seen_by;
-use items::head::Head;
-use items::word::Content;
-use items::word::unpack;
+use layout::head::Head;
+use layout::word::Content;
+use layout::word::unpack;
 ghost use mathlib.Core.Path.{_≡_};
 ghost use Prim.Native.Nat.{_+_, _≤_};
 ghost use lib.ListN.{length};
 ghost use lib.Seq.{sets};
 ghost use Rattle.rules.specs.Reading.{unitsOf};
-ghost use Rattle.items.specs.Word.{whatOf};
-ghost use Rattle.items.specs.Memory.{listOf};
+ghost use Rattle.layout.specs.Word.{whatOf};
+ghost use Rattle.layout.specs.Memory.{listOf};
 ghost use Rattle.events.specs.Told.{unitsFor};
 ghost use Rattle.events.specs.Walks.{Walkable, pieceBy, givenBy};
 

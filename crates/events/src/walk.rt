@@ -6,12 +6,12 @@ use assembling::assembler::add_op;
 use assembling::assembler::pass;
 use assembling::runs::inserted;
 use assembling::runs::seen_by;
-use items::head::Head;
-use items::word::unpack;
+use layout::head::Head;
+use layout::word::unpack;
 ghost use mathlib.Core.Path.{_≡_};
 ghost use Prim.Native.Nat.{_*_, _≤_};
 ghost use lib.ListN.{length};
-ghost use Rattle.items.specs.Memory.{listOf};
+ghost use Rattle.layout.specs.Memory.{listOf};
 ghost use Rattle.events.specs.Walks.{Walkable, Walked};
 
 pub struct Measure {

@@ -2,7 +2,7 @@
 // for each operation's numbers, and one for the units. The first number and unit behind what is written is shown too: 9, as lent.
 mod sheets;
 
-use items::head::Head;
+use layout::head::Head;
 use sheets::Sheet;
 use sheets::crossed;
 use sheets::deleted;

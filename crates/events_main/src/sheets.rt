@@ -1,7 +1,7 @@
 // Small sheets, and what is written of their events.
-use items::head::Head;
-use items::word::Content;
-use items::word::Item;
+use layout::head::Head;
+use layout::word::Content;
+use layout::word::Item;
 ghost use Prim.Native.Nat.{_≤_};
 
 // A sheet of up to six items, by their words, over up to four units.
@@ -32,7 +32,7 @@ fn word(next: u32, content: Content, state: State) -> u64 {
         State::Deleted => false,
         State::Passing => true,
     };
-    items::word::pack(Item {
+    layout::word::pack(Item {
         next,
         content,
         dead,

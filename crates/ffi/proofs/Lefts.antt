@@ -2,9 +2,9 @@
 use Prim.Native.Nat.{ℕ}
 use mathlib.Core.Path.{_≡_, ap, _∙_}
 use mathlib.Core.List.{List}
-use Rattle.items.specs.declared.head.Head.{Head}
-use Rattle.items.specs.declared.calls.Answer.{Answer}
-use Rattle.items.specs.Memory.{Carried}
+use Rattle.layout.specs.declared.head.Head.{Head}
+use Rattle.items.specs.declared.Answer.{Answer}
+use Rattle.layout.specs.Memory.{Carried}
 use Rattle.changes.specs.Frame.{leaving}
 use Rattle.ffi.specs.Heads.{answerIn, left}
 

@@ -6,8 +6,8 @@ use mathlib.Core.Bool.{Bool, true}
 use mathlib.Core.List.{List, [], _∷_, map}
 use lib.ListN.{length, take, length-map}
 use lib.Seq.{sets, length-take-le}
-use Rattle.items.specs.declared.head.Head.{Head}
-use Rattle.items.proofs.Soundness.{sound-parts}
+use Rattle.layout.specs.declared.head.Head.{Head}
+use Rattle.layout.proofs.Soundness.{sound-parts}
 use Rattle.runs.specs.declared.run.Run.{Run}
 use Rattle.runs.specs.declared.calls.Count.{Count}
 use Rattle.runs.specs.declared.cursor.Cursor.{Cursor}

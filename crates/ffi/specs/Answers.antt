@@ -6,7 +6,7 @@ use mathlib.Core.List.{List, [], _∷_, map}
 use lib.Dec.{leb}
 use lib.IntN.{ℤ, pos}
 use lib.ListN.{length, getD, take}
-use Rattle.items.specs.declared.calls.Length.{Length}
+use Rattle.items.specs.declared.Length.{Length}
 use Rattle.runs.specs.declared.calls.Count.{Count}
 use Rattle.runs.specs.declared.run.Run.{Run}
 use Rattle.runs.specs.Answers.{Said}

@@ -5,8 +5,8 @@ use mathlib.Core.List.{List}
 use lib.Dec.{eqb, ltb}
 use lib.ListN.{length}
 use Rattle.attrs.specs.declared.Attrs.{Attrs}
-use Rattle.items.specs.declared.head.Head.{Head}
-use Rattle.items.specs.Memory.{soundOf, Carried, keptAll}
+use Rattle.layout.specs.declared.head.Head.{Head}
+use Rattle.layout.specs.Memory.{soundOf, Carried, keptAll}
 use Rattle.encoding.specs.declared.Found.{Found}
 use Rattle.encoding.specs.declared.Found.the-variants.{Is, Nothing}
 use Rattle.encoding.specs.declared.MaybeOp.{MaybeOp}

@@ -3,9 +3,9 @@ use Prim.Native.Nat.{ℕ}
 use mathlib.Core.List.{List}
 use lib.ListN.{getD}
 use Rattle.attrs.specs.declared.Attrs.{Attrs}
-use Rattle.items.specs.declared.head.Head.{Head}
-use Rattle.items.specs.declared.calls.Answer.{Answer}
-use Rattle.items.specs.Memory.{Carried}
+use Rattle.layout.specs.declared.head.Head.{Head}
+use Rattle.items.specs.declared.Answer.{Answer}
+use Rattle.layout.specs.Memory.{Carried}
 use Rattle.changes.specs.Frame.{leaving}
 use Rattle.table.specs.declared.TableHead.{TableHead}
 use Rattle.table.specs.declared.Asked.{Asked}

@@ -2,7 +2,7 @@
 ghost use mathlib.Core.Path.{_≡_};
 ghost use Rattle.attrs.specs.Packed.{says};
 ghost use Rattle.rules.specs.Calls.{beginNow, insertText, insertTextWith, insertEmbed, insertEmbedWith, formatRange, removeRange};
-ghost use Rattle.items.specs.Memory.{carry};
+ghost use Rattle.layout.specs.Memory.{carry};
 ghost use Rattle.items.specs.Calls.{answerOf};
 ghost use Rattle.ffi.specs.Heads.{headOf, setOf, answerIn, left};
 use crate::heads::answered;
@@ -14,7 +14,7 @@ pub extern "C" fn indovalump_begin(head: &mut [u32; 3], items: &mut [u64], units
     ensures { λ r. ⌜ (answerIn r (now (head .exit)) ≡ answerOf (carry beginNow (headOf (now (head .entry))) (now (items .entry)) (now (units .entry)))) × (now (items .exit) ≡ carry beginNow (headOf (now (head .entry))) (now (items .entry)) (now (units .entry)) .words) ⌝ }
 {
     let h = head_of(head);
-    answered(head, items::calls::begin(h, items, units))
+    answered(head, items::begin(h, items, units))
 }
 
 #[no_mangle]

@@ -2,8 +2,8 @@
 ghost use mathlib.Core.Path.{_≡_};
 ghost use Rattle.ffi.specs.Heads.{headOf, tableHeadOf, answerIn, setOf};
 use attrs::Attrs;
-use items::calls::Answer;
-use items::head::Head;
+use items::Answer;
+use layout::head::Head;
 use table::TableHead;
 
 pub(crate) fn head_of(words: &[u32; 3]) -> Head

@@ -1,7 +1,7 @@
 // What is read of a sheet.
 ghost use mathlib.Core.Path.{_≡_};
-ghost use Rattle.items.specs.Heads.{freshHead};
-ghost use Rattle.items.specs.Memory.{soundOf};
+ghost use Rattle.layout.specs.Heads.{freshHead};
+ghost use Rattle.layout.specs.Memory.{soundOf};
 ghost use Rattle.items.specs.Calls.{lengthOf};
 ghost use Rattle.ffi.specs.Heads.{headOf};
 ghost use lib.ListN.{length};
@@ -12,7 +12,7 @@ ghost use Rattle.events.specs.Given.{given, atFront};
 ghost use Rattle.ffi.specs.Answers.{lengthIn, countIn, eventIn, runOp, saidWords};
 use crate::heads::head_of;
 use encoding::write_op;
-use items::head::Head;
+use layout::head::Head;
 use ops::delta::DeltaOp;
 use ops::delta::Inserted;
 use ops::delta::Op;
@@ -33,7 +33,7 @@ pub extern "C" fn indovalump_sound(head: &[u32; 3], items: &[u64], units: &[u16]
     ensures { λ r. ⌜ r ≡ soundOf (headOf (now (head .entry))) (now (items .entry)) (now (units .entry)) ⌝ }
 {
     let h = head_of(head);
-    items::sound::sound(h, items, units)
+    soundness::sound(h, items, units)
 }
 
 #[no_mangle]
@@ -46,7 +46,7 @@ pub extern "C" fn indovalump_len(
     ensures { λ r. ⌜ lengthIn r (now (len .exit)) ≡ lengthOf (headOf (now (head .entry))) (now (items .entry)) (now (units .entry)) ⌝ }
 {
     let h = head_of(head);
-    let a = items::calls::len(h, items, units);
+    let a = items::len(h, items, units);
     *len = a.len;
     a.refusal
 }

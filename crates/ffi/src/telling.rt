@@ -10,11 +10,11 @@ use crate::heads::head_of;
 use deltas::apply::apply_delta;
 use encoding::Found;
 use encoding::op_at;
-use items::calls::Answer;
-use items::head::Head;
-use items::sound::sound;
+use items::Answer;
+use layout::head::Head;
 use ops::delta::Delta;
 use ops::delta::DeltaOp;
+use soundness::sound;
 
 // The delta that was read, and whether all of the numbers are operations.
 pub(crate) struct ReadDelta {

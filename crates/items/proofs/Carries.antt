@@ -11,13 +11,13 @@ use Rattle.rules.specs.Sheet.{Item, begin}
 use Rattle.rules.specs.Calls.{Sheet, Outcome, beginNow, call}
 use Rattle.rules.specs.Rulings.{SoundSheet}
 use Rattle.laws.proofs.Calls.{call-sound}
-use Rattle.items.specs.declared.head.Head.{Head}
-use Rattle.items.specs.Chain.{headOr}
-use Rattle.items.specs.Heads.{grownHead}
-use Rattle.items.specs.Memory.{listOf, modelOf, soundOf, Sound, keptAll, storedAll, carryBy, carry}
+use Rattle.layout.specs.declared.head.Head.{Head}
+use Rattle.layout.specs.Chain.{headOr}
+use Rattle.layout.specs.Heads.{grownHead}
+use Rattle.layout.specs.Memory.{listOf, modelOf, soundOf, Sound, keptAll, storedAll, carryBy, carry}
 use Rattle.items.specs.Calls.{answerOf, restWord, sweepTo}
-use Rattle.items.proofs.Soundness.{sound-parts, sound-whole}
-use Rattle.items.proofs.Models.{used-length, model-sound, sound-head, stored-sound, stored-model}
+use Rattle.layout.proofs.Soundness.{sound-parts, sound-whole}
+use Rattle.layout.proofs.Models.{used-length, model-sound, sound-head, stored-sound, stored-model}
 use Rattle.items.proofs.Sweeps.{begin-stored}
 
 -- ---- the three ways

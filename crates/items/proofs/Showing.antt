@@ -10,17 +10,17 @@ use borrow.Author.Tests.{lt-ltb, le-ltb}
 use Rattle.rules.specs.Sheet.{What, text, embed, mark, width, Item}
 use Rattle.rules.specs.Sound.{held}
 use Rattle.rules.specs.Reading.{visible}
-use Rattle.items.specs.declared.head.Head.{Head}
-use Rattle.items.specs.declared.word.Content.{Content}
-use Rattle.items.specs.declared.word.Content.the-variants.{Text}
-use Rattle.items.specs.declared.word.Item.{Item as Unpacked}
-use Rattle.items.specs.Word.{whatOf, unpackOf}
-use Rattle.items.specs.Chain.{itemAt, nextAt, chain}
-use Rattle.items.specs.Memory.{listOf, lenOf, whatOk, soundOf, Sound}
+use Rattle.layout.specs.declared.head.Head.{Head}
+use Rattle.layout.specs.declared.word.Content.{Content}
+use Rattle.layout.specs.declared.word.Content.the-variants.{Text}
+use Rattle.layout.specs.declared.word.Item.{Item as Unpacked}
+use Rattle.layout.specs.Word.{whatOf, unpackOf}
+use Rattle.layout.specs.Chain.{itemAt, nextAt, chain}
+use Rattle.layout.specs.Memory.{listOf, lenOf, whatOk, soundOf, Sound}
 use Rattle.items.specs.Calls.{shownLen, lengthOf, pieceOf, textOf}
-use Rattle.items.proofs.Links.{chain-step, length-chain}
-use Rattle.items.proofs.Soundness.{held-cons, piece-parts, word-parts, sound-parts}
-use Rattle.items.proofs.Models.{sound-word}
+use Rattle.layout.proofs.Links.{chain-step, length-chain}
+use Rattle.layout.proofs.Soundness.{held-cons, piece-parts, word-parts, sound-parts}
+use Rattle.layout.proofs.Models.{sound-word}
 
 -- ---- the length
 shown-is : (d : Bool) (w : What) → cond (not d) (width w) 0 ≡ shownLen d w

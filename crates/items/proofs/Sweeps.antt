@@ -10,15 +10,15 @@ use lib.Seq.{getD-set-same, getD-set-other, drop-set-lt}
 use lib.Dec.{eqb}
 use borrow.Author.Tests.{lt-ltb, eqb-true, eqb-false}
 use Rattle.rules.specs.Sheet.{Item, rested, begin}
-use Rattle.items.specs.declared.head.Head.{Head}
-use Rattle.items.specs.Word.{unpackOf, inRange}
-use Rattle.items.specs.Chain.{END, itemFrom, nextAt, chain, walks}
-use Rattle.items.specs.Memory.{listOf, eachOk, Sound, stored}
+use Rattle.layout.specs.declared.head.Head.{Head}
+use Rattle.layout.specs.Word.{unpackOf, inRange}
+use Rattle.layout.specs.Chain.{END, itemFrom, nextAt, chain, walks}
+use Rattle.layout.specs.Memory.{listOf, eachOk, Sound, stored}
 use Rattle.items.specs.Calls.{restWord, sweepTo}
-use Rattle.items.proofs.Words.{item-rest, pack-rest, pack-next, fitting-from}
-use Rattle.items.proofs.Links.{walks-parts}
-use Rattle.items.proofs.Stored.{pack-range, each-all}
-use Rattle.items.proofs.Copies.{copy-chain}
+use Rattle.layout.proofs.Words.{item-rest, pack-rest, pack-next, fitting-from}
+use Rattle.layout.proofs.Links.{walks-parts}
+use Rattle.layout.proofs.Stored.{pack-range, each-all}
+use Rattle.layout.proofs.Copies.{copy-chain}
 
 module _ (e : ℕ → ℕ) (m : List ℕ) where
   pub sweep-length : (i : ℕ) → length (sweepTo e i m) ≡ length m

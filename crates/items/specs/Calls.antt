@@ -6,12 +6,12 @@ use lib.ListN.{getD, set, take, drop}
 use lib.Dec.{ltb}
 use Rattle.rules.specs.Sheet.{What, text, embed, mark, width}
 use Rattle.rules.specs.Reading.{visible}
-use Rattle.items.specs.declared.head.Head.{Head}
-use Rattle.items.specs.declared.calls.Answer.{Answer}
-use Rattle.items.specs.declared.calls.Length.{Length}
-use Rattle.items.specs.Word.{unpackOf, packOf}
-use Rattle.items.specs.Chain.{itemAt}
-use Rattle.items.specs.Memory.{Carried, listOf, soundOf}
+use Rattle.layout.specs.declared.head.Head.{Head}
+use Rattle.items.specs.declared.Answer.{Answer}
+use Rattle.items.specs.declared.Length.{Length}
+use Rattle.layout.specs.Word.{unpackOf, packOf}
+use Rattle.layout.specs.Chain.{itemAt}
+use Rattle.layout.specs.Memory.{Carried, listOf, soundOf}
 
 -- What a call that edits hands back by value; the buffers are the rest of `Carried`.
 abbrev pub answerOf : Carried → Answer

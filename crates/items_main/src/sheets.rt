@@ -1,7 +1,7 @@
 // Small sheets, and what is written of them.
-use items::head::Head;
-use items::word::Content;
-use items::word::Item;
+use layout::head::Head;
+use layout::word::Content;
+use layout::word::Item;
 
 // A sheet of three items, by their words, over four units.
 pub struct Small {
@@ -13,7 +13,7 @@ pub struct Small {
 }
 
 pub fn text(next: u32, start: u32, len: u32) -> u64 {
-    items::word::pack(Item {
+    layout::word::pack(Item {
         next,
         content: Content::Text { start, len },
         dead: false,
@@ -23,7 +23,7 @@ pub fn text(next: u32, start: u32, len: u32) -> u64 {
 }
 
 pub fn mark(next: u32, key: u32, value: u32) -> u64 {
-    items::word::pack(Item {
+    layout::word::pack(Item {
         next,
         content: Content::Mark { key, value },
         dead: false,
@@ -33,7 +33,7 @@ pub fn mark(next: u32, key: u32, value: u32) -> u64 {
 }
 
 pub fn embed(next: u32, flags: u32) -> u64 {
-    items::word::pack(Item {
+    layout::word::pack(Item {
         next,
         content: Content::Embed(0xFFFF_FFFF),
         dead: flags / 4 % 2 == 1,
@@ -104,5 +104,5 @@ pub fn units_of(s: Small) -> [u16; 16384] {
 pub fn tried(label: &[u8], s: Small) {
     let items = words_of(s);
     let units = units_of(s);
-    line(label, items::sound::sound(s.head, &items, &units));
+    line(label, soundness::sound(s.head, &items, &units));
 }

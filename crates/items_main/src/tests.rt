@@ -10,7 +10,7 @@ use crate::sheets::text;
 use crate::sheets::tried;
 use crate::sheets::units_of;
 use crate::sheets::words_of;
-use items::head::Head;
+use layout::head::Head;
 ghost use Prim.Native.Nat.{_≤_};
 
 fn sized(label: &[u8], h: Head, words: usize, n: usize)
@@ -18,7 +18,7 @@ fn sized(label: &[u8], h: Head, words: usize, n: usize)
 {
     let items = [0u64; 2049];
     let units = [0u16; 16385];
-    line(label, items::sound::sound(h, &items[..words], &units[..n]));
+    line(label, soundness::sound(h, &items[..words], &units[..n]));
 }
 
 pub fn sizes() {
@@ -188,19 +188,16 @@ fn crowded(label: &[u8], first: u32, n: u32) {
     let items = crowd();
     let units = units_of(plain());
     let h = head(first, n, n);
-    let r = items::calls::len(h, &items, &units);
+    let r = items::len(h, &items, &units);
     number(r.len);
-    line(label, items::sound::sound(h, &items, &units));
+    line(label, soundness::sound(h, &items, &units));
 }
 
 fn long(label: &[u8], start: u32) {
     let mut items = words_of(plain());
     let units = units_of(plain());
     items[0] = text(Head::END, start, 16384);
-    line(
-        label,
-        items::sound::sound(head(0, 1, 16384), &items, &units),
-    );
+    line(label, soundness::sound(head(0, 1, 16384), &items, &units));
 }
 
 pub fn full() {
@@ -216,7 +213,7 @@ fn wide(unit: u16) -> u32 {
 }
 
 fn shown(h: Head, items: &[u64], units: &[u16], n: u32) {
-    let part = items::calls::text_of(h, items, units, n);
+    let part = items::text_of(h, items, units, n);
     if part.len() > 0 {
         number(wide(part[0]));
     } else {
@@ -226,7 +223,7 @@ fn shown(h: Head, items: &[u64], units: &[u16], n: u32) {
 
 // The length, and the first unit of items 0 to 3.
 fn read(h: Head, items: &[u64], units: &[u16]) {
-    let n = items::calls::len(h, items, units);
+    let n = items::len(h, items, units);
     number(n.refusal);
     number(n.len);
     shown(h, items, units, 0);
@@ -242,7 +239,7 @@ fn called(label: &[u8], s: Small) {
     io::write_all(1, label);
     io::write_all(1, b" ");
     read(s.head, &items, &units);
-    let r = items::calls::begin(s.head, &mut items, &units);
+    let r = items::begin(s.head, &mut items, &units);
     let h = r.head;
     number(r.refusal);
     number(h.first);

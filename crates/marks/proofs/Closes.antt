@@ -7,8 +7,8 @@ use Rattle.attrs.specs.Sets.{Set}
 use Rattle.rules.specs.Sheet.{Item, dead}
 use Rattle.rules.specs.Places.{Move, over, agrees, forget, putMarks, close}
 use Rattle.rules.specs.Edits.{closing}
-use Rattle.items.specs.declared.head.Head.{Head}
-use Rattle.items.specs.Chain.{itemAt}
+use Rattle.layout.specs.declared.head.Head.{Head}
+use Rattle.layout.specs.Chain.{itemAt}
 use Rattle.arena.specs.declared.Place.{Place}
 use Rattle.arena.specs.Places.{Going, forwardOf}
 use Rattle.arena.proofs.Walks.{going-end, going-here, going-ahead}

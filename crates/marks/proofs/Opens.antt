@@ -14,12 +14,12 @@ use Rattle.rules.specs.Reading.{live, setKey, force}
 use Rattle.rules.specs.Places.{At, Move, after, andThen, putMarks}
 use Rattle.rules.specs.Edits.{opening, settled}
 use Rattle.laws.proofs.Room.{putMarks-next}
-use Rattle.items.specs.declared.head.Head.{Head}
-use Rattle.items.specs.declared.word.Content.{Content}
-use Rattle.items.specs.declared.word.Content.the-variants.{Text, Embed, Mark}
-use Rattle.items.specs.Word.{whatOf, unpackOf}
-use Rattle.items.specs.Chain.{nextAt, chain, walks}
-use Rattle.items.proofs.Links.{walks-parts}
+use Rattle.layout.specs.declared.head.Head.{Head}
+use Rattle.layout.specs.declared.word.Content.{Content}
+use Rattle.layout.specs.declared.word.Content.the-variants.{Text, Embed, Mark}
+use Rattle.layout.specs.Word.{whatOf, unpackOf}
+use Rattle.layout.specs.Chain.{nextAt, chain, walks}
+use Rattle.layout.proofs.Links.{walks-parts}
 use Rattle.arena.specs.declared.Place.{Place}
 use Rattle.arena.specs.Places.{InRange, Neat, inForce, leftOf, rightOf, placed, Standing, Carried, Going, inTurn}
 use Rattle.arena.proofs.Carried.{carried-then, carried-as, going-done, then-assoc}

@@ -15,9 +15,9 @@ use Rattle.attrs.proofs.Slots.{each-keys, key-says, Part, part-all, Turn, turn}
 use Rattle.rules.specs.Sheet.{Item, mark, new}
 use Rattle.rules.specs.Places.{after, put, markFor, marks}
 use Rattle.rules.specs.Edits.{putNew}
-use Rattle.items.specs.declared.head.Head.{Head}
-use Rattle.items.specs.declared.word.Content.the-variants.{Mark}
-use Rattle.items.specs.Word.{whatOf}
+use Rattle.layout.specs.declared.head.Head.{Head}
+use Rattle.layout.specs.declared.word.Content.the-variants.{Mark}
+use Rattle.layout.specs.Word.{whatOf}
 use Rattle.arena.specs.declared.Place.{Place}
 use Rattle.arena.specs.Places.{SIZE, leftOf, rightOf, Standing, Puttable, Carried, Going, inTurn, staying}
 use Rattle.arena.proofs.Carried.{going-start, going-on}

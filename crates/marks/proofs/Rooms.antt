@@ -6,7 +6,7 @@ use mathlib.Core.List.{List}
 use Rattle.attrs.specs.Sets.{Env, none}
 use Rattle.rules.specs.Sheet.{Item}
 use Rattle.rules.specs.Places.{At, Move, after}
-use Rattle.items.specs.declared.head.Head.{Head}
+use Rattle.layout.specs.declared.head.Head.{Head}
 use Rattle.arena.specs.declared.Place.{Place}
 use Rattle.arena.specs.Places.{leftOf, rightOf, Carried}
 

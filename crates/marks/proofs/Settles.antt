@@ -5,8 +5,8 @@ use mathlib.Core.Bool.{true, false}
 use mathlib.Core.List.{List}
 use Rattle.attrs.specs.Sets.{Set}
 use Rattle.rules.specs.Places.{Move}
-use Rattle.items.specs.declared.head.Head.{Head}
-use Rattle.items.specs.Chain.{itemAt}
+use Rattle.layout.specs.declared.head.Head.{Head}
+use Rattle.layout.specs.Chain.{itemAt}
 use Rattle.arena.specs.declared.Place.{Place}
 use Rattle.arena.specs.Places.{Carried, Going, forwardOf, staying}
 use Rattle.arena.proofs.Walks.{going-end, going-here, going-ahead, going-stopped}

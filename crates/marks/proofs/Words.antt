@@ -5,9 +5,9 @@ use mathlib.Core.Bool.{true, false, not, _||_, false≢true, true≢false, cond}
 use lib.Dec.{eqb}
 use Rattle.attrs.specs.Sets.{Slot, absent, is, Set, isAbsent, lay, slotIs}
 use Rattle.rules.specs.Places.{agrees, forget}
-use Rattle.items.specs.declared.word.Item.{Item}
-use Rattle.items.specs.Word.{whatOf, unpackOf}
-use Rattle.items.specs.Chain.{itemFrom}
+use Rattle.layout.specs.declared.word.Item.{Item}
+use Rattle.layout.specs.Word.{whatOf, unpackOf}
+use Rattle.layout.specs.Chain.{itemFrom}
 use Rattle.marks.specs.Moves.{passable, dropping}
 
 module _ (a : Set) (w : ℕ) (it : Item) (e : it ≡ unpackOf w) where

@@ -6,7 +6,7 @@ use Rattle.attrs.specs.declared.Attrs.{Attrs}
 use Rattle.attrs.specs.Sets.{Set, none, former}
 use Rattle.attrs.specs.Packed.{says}
 use Rattle.rules.specs.Places.{after}
-use Rattle.items.specs.declared.head.Head.{Head}
+use Rattle.layout.specs.declared.head.Head.{Head}
 use Rattle.arena.specs.declared.Place.{Place}
 use Rattle.arena.specs.Places.{leftOf, Carried}
 use Rattle.marks.specs.Moves.{opener}

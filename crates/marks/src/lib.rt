@@ -2,7 +2,7 @@
 ghost use mathlib.Core.Path.{_≡_};
 ghost use Prim.Native.Nat.{_+_, _/_, _≤_};
 ghost use Rattle.attrs.specs.Packed.{says};
-ghost use Rattle.items.specs.Chain.{itemFrom};
+ghost use Rattle.layout.specs.Chain.{itemFrom};
 ghost use Rattle.rules.specs.Edits.{closing};
 ghost use Rattle.arena.specs.Places.{SIZE, Standing, Carried, Going};
 ghost use Rattle.marks.specs.Moves.{settling, passable, putting, dropping};
@@ -13,9 +13,9 @@ use arena::forward;
 use arena::writes::put;
 use attrs::Attrs;
 use attrs::rest;
-use items::head::Head;
-use items::word::Content;
-use items::word::unpack;
+use layout::head::Head;
+use layout::word::Content;
+use layout::word::unpack;
 
 // A deleted item, or a mark that the set agrees with.
 fn passes(w: u64, attrs: Attrs) -> bool

@@ -13,12 +13,12 @@ use Rattle.units.specs.Surrogates.{isHigh, isLow, splitsPair}
 use Rattle.rules.specs.Sheet.{width, Item}
 use Rattle.rules.specs.Reading.{unit, visible}
 use Rattle.rules.specs.Calls.{visibleUnits, badRange}
-use Rattle.items.specs.declared.head.Head.{Head}
-use Rattle.items.specs.declared.calls.Length.{Length}
-use Rattle.items.specs.Memory.{listOf, soundOf}
+use Rattle.layout.specs.declared.head.Head.{Head}
+use Rattle.items.specs.declared.Length.{Length}
+use Rattle.layout.specs.Memory.{listOf, soundOf}
 use Rattle.items.specs.Calls.{lengthOf}
-use Rattle.items.proofs.Soundness.{sound-parts}
-use Rattle.items.proofs.Models.{model-sound, used-length}
+use Rattle.layout.proofs.Soundness.{sound-parts}
+use Rattle.layout.proofs.Models.{model-sound, used-length}
 use Rattle.ranges.specs.declared.Place.{Place}
 use Rattle.ranges.specs.declared.Shown.{Shown}
 use Rattle.items.specs.Calls.{shownLen}

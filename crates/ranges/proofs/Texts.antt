@@ -12,11 +12,11 @@ use Rattle.rules.specs.Sheet.{What, text, embed, mark, width, Item}
 use Rattle.rules.specs.Reading.{Glyph, unit, unitsOf, glyphs, live, seenGlyphs}
 use Rattle.rules.specs.Sound.{Fits, AllFit}
 use Rattle.rules.specs.Calls.{unitAt, visibleUnits}
-use Rattle.items.specs.declared.word.Content.{Content}
-use Rattle.items.specs.declared.word.Content.the-variants.{Text}
-use Rattle.items.specs.Word.{whatOf}
-use Rattle.items.specs.Chain.{chain, itemAt, nextAt}
-use Rattle.items.proofs.Links.{walks-lt, walks-next, chain-step}
+use Rattle.layout.specs.declared.word.Content.{Content}
+use Rattle.layout.specs.declared.word.Content.the-variants.{Text}
+use Rattle.layout.specs.Word.{whatOf}
+use Rattle.layout.specs.Chain.{chain, itemAt, nextAt}
+use Rattle.layout.proofs.Links.{walks-lt, walks-next, chain-step}
 use Rattle.ranges.specs.declared.Place.{Place}
 use Rattle.ranges.specs.declared.Shown.{Shown}
 use Rattle.items.specs.Calls.{shownLen}

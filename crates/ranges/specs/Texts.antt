@@ -9,9 +9,9 @@ use Rattle.units.specs.Surrogates.{splitsPair}
 use Rattle.rules.specs.Sheet.{What, text, embed, mark}
 use Rattle.rules.specs.Sound.{AllFit}
 use Rattle.rules.specs.Calls.{visibleUnits, badRange}
-use Rattle.items.specs.declared.head.Head.{Head}
-use Rattle.items.specs.Chain.{chain, walks}
-use Rattle.items.specs.Memory.{listOf, soundOf}
+use Rattle.layout.specs.declared.head.Head.{Head}
+use Rattle.layout.specs.Chain.{chain, walks}
+use Rattle.layout.specs.Memory.{listOf, soundOf}
 use Rattle.runs.specs.declared.calls.Count.{Count}
 use Rattle.ranges.specs.declared.Place.{Place}
 use Rattle.ranges.specs.declared.Shown.{Shown}

@@ -1,13 +1,13 @@
 // The visible units of a range, copied out: so a run's text can be had by its start and length.
-use items::calls::shown_len;
-use items::head::Head;
-use items::word::Content;
-use items::word::unpack;
+use items::shown_len;
+use layout::head::Head;
+use layout::word::Content;
+use layout::word::unpack;
 use runs::calls::Count;
 ghost use mathlib.Core.Path.{_≡_};
 ghost use Prim.Native.Nat.{_-_, _<_, _≤_, min};
 ghost use lib.ListN.{length};
-ghost use Rattle.items.specs.Word.{whatOf};
+ghost use Rattle.layout.specs.Word.{whatOf};
 ghost use Rattle.runs.specs.Answers.{written};
 ghost use Rattle.rules.specs.Sheet.{width as widthOf};
 ghost use Rattle.ranges.specs.Texts.{unitIn, showing, splitsAt, Reads, Given, LiesIn, Copied};
@@ -133,7 +133,7 @@ pub fn text_of_range(
 ) -> Count
     ensures { λ r. ⌜ Copied h (now (items .entry)) (now (units .entry)) index len (now (out .entry)) (now (out .exit)) r ⌝ }
 {
-    let all = items::calls::len(h, items, units);
+    let all = items::len(h, items, units);
     if all.refusal != 0 {
         return Count {
             refusal: 9,

@@ -11,11 +11,11 @@ use Rattle.attrs.specs.Sets.{Env}
 use Rattle.rules.specs.Sheet.{What, text, embed, mark, Item, dead, like, kill, width, isMark}
 use Rattle.rules.specs.Places.{At, Move, stay, over, after, leftHalf, rightHalf, uses}
 use Rattle.rules.specs.Edits.{killUnits}
-use Rattle.items.specs.declared.head.Head.{Head}
-use Rattle.items.specs.declared.word.Content.{Content}
-use Rattle.items.specs.declared.word.Content.the-variants.{Text, Embed, Mark}
-use Rattle.items.specs.Word.{whatOf, unpackOf}
-use Rattle.items.specs.Chain.{itemAt}
+use Rattle.layout.specs.declared.head.Head.{Head}
+use Rattle.layout.specs.declared.word.Content.{Content}
+use Rattle.layout.specs.declared.word.Content.the-variants.{Text, Embed, Mark}
+use Rattle.layout.specs.Word.{whatOf, unpackOf}
+use Rattle.layout.specs.Chain.{itemAt}
 use Rattle.arena.specs.declared.Place.{Place}
 use Rattle.arena.specs.Places.{SIZE, InRange, rightOf, Carried, Going, Cuttable, forwardOf, staying, halving}
 use Rattle.arena.specs.Writes.{killMem}

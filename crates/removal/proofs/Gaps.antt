@@ -7,10 +7,10 @@ use Rattle.attrs.specs.Sets.{Env}
 use Rattle.rules.specs.Sheet.{Item, isMark}
 use Rattle.rules.specs.Places.{Move}
 use Rattle.rules.specs.Edits.{idle}
-use Rattle.items.specs.declared.head.Head.{Head}
-use Rattle.items.specs.declared.word.Item as Word
-use Rattle.items.specs.Word.{whatOf, unpackOf}
-use Rattle.items.specs.Chain.{itemFrom, itemAt}
+use Rattle.layout.specs.declared.head.Head.{Head}
+use Rattle.layout.specs.declared.word.Item as Word
+use Rattle.layout.specs.Word.{whatOf, unpackOf}
+use Rattle.layout.specs.Chain.{itemFrom, itemAt}
 use Rattle.arena.specs.declared.Place.{Place}
 use Rattle.arena.specs.Places.{Carried, Going, rightOf, forwardOf, staying}
 use Rattle.arena.specs.Writes.{killMem}

@@ -10,7 +10,7 @@ use Rattle.attrs.proofs.Tests.{bare-packed, bare-force}
 use Rattle.rules.specs.Sheet.{Item}
 use Rattle.rules.specs.Places.{after}
 use Rattle.rules.specs.Edits.{deleteHere, removeHere}
-use Rattle.items.specs.declared.head.Head.{Head}
+use Rattle.layout.specs.declared.head.Head.{Head}
 use Rattle.arena.specs.declared.Place.{Place}
 use Rattle.arena.specs.Places.{leftOf, rightOf, inForce, Standing, Carried}
 use Rattle.arena.proofs.Carried.{carried-stay, carried-as}

@@ -13,8 +13,8 @@ use Rattle.rules.specs.Sheet.{Item, dead, kill, width, isMark}
 use Rattle.rules.specs.Places.{At, whole, over, after, andThen, split}
 use Rattle.rules.specs.Edits.{killUnits, toEnd, idle, tidyItem, tidy}
 use Rattle.laws.proofs.Remove.{end-whole}
-use Rattle.items.specs.declared.head.Head.{Head}
-use Rattle.items.specs.Chain.{headOr}
+use Rattle.layout.specs.declared.head.Head.{Head}
+use Rattle.layout.specs.Chain.{headOr}
 use Rattle.arena.specs.declared.Place.{Place}
 use Rattle.arena.specs.Places.{listOf, leftOf, rightOf, keptPlace, Standing, Carried, inTurn}
 use Rattle.arena.proofs.Carried.{after-append, carried-then, carried-as}

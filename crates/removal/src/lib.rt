@@ -6,7 +6,7 @@ ghost use lib.ListN.{length};
 ghost use Rattle.attrs.specs.Packed.{envOf};
 ghost use Rattle.rules.specs.Sheet.{mark, isMark};
 ghost use Rattle.rules.specs.Edits.{idle, removeHere, deleteHere};
-ghost use Rattle.items.specs.Chain.{itemFrom};
+ghost use Rattle.layout.specs.Chain.{itemFrom};
 ghost use Rattle.arena.specs.Places.{SIZE, Standing, Carried};
 ghost use Rattle.arena.specs.Writes.{killMem};
 ghost use Rattle.removal.specs.Tidies.{idleItem, deleting, ending, tidyFirst, tidying, deleteTidy};
@@ -16,10 +16,10 @@ use arena::forward;
 use arena::writes::delete;
 use arena::writes::split;
 use attrs::Attrs;
-use items::calls::shown_len;
-use items::head::Head;
-use items::word::Content;
-use items::word::unpack;
+use items::shown_len;
+use layout::head::Head;
+use layout::word::Content;
+use layout::word::unpack;
 
 // A branch of its own, so that the walks go straight on.
 fn delete_if(items: &mut [u64], n: u32, yes: bool)

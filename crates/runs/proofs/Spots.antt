@@ -15,14 +15,14 @@ use Rattle.rules.specs.Sound.{Fits, AllFit}
 use Rattle.rules.specs.Runs.{words, object, Run as Stretch, runsFrom, ahead, joined}
 use types.Run.{OneOf}
 use denote.Enum.Declared.{tagOf}
-use Rattle.items.specs.declared.word.Content.{Content}
-use Rattle.items.specs.declared.word.Content.the-variants.{Text, Embed, Mark}
-use Rattle.items.proofs.word.Content.{the-type}
-use Rattle.items.specs.declared.word.Item.{Item as Entry}
+use Rattle.layout.specs.declared.word.Content.{Content}
+use Rattle.layout.specs.declared.word.Content.the-variants.{Text, Embed, Mark}
+use Rattle.layout.proofs.word.Content.{the-type}
+use Rattle.layout.specs.declared.word.Item.{Item as Entry}
 use Rattle.items.specs.Calls.{shownLen}
-use Rattle.items.specs.Word.{whatOf, unpackOf}
-use Rattle.items.specs.Chain.{chain, itemAt, nextAt}
-use Rattle.items.proofs.Links.{walks-lt, walks-next, chain-step}
+use Rattle.layout.specs.Word.{whatOf, unpackOf}
+use Rattle.layout.specs.Chain.{chain, itemAt, nextAt}
+use Rattle.layout.proofs.Links.{walks-lt, walks-next, chain-step}
 use Rattle.runs.specs.declared.run.Run.{Run}
 use Rattle.runs.specs.declared.cursor.Spot.{Spot}
 use Rattle.runs.specs.declared.cursor.Cursor.{Cursor}

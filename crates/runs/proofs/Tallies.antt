@@ -9,12 +9,12 @@ use lib.ListN.{length, drop}
 use borrow.Author.Tests.{lt-ltb, le-leb, lt-leb, leb-true}
 use Rattle.attrs.specs.Sets.{Env}
 use Rattle.rules.specs.Runs.{runsFrom}
-use Rattle.items.specs.declared.head.Head.{Head}
-use Rattle.items.specs.Chain.{walks, nextAt}
-use Rattle.items.specs.Memory.{listOf, modelOf, soundOf}
-use Rattle.items.proofs.Links.{walks-parts}
-use Rattle.items.proofs.Soundness.{sound-parts}
-use Rattle.items.proofs.Models.{model-sound}
+use Rattle.layout.specs.declared.head.Head.{Head}
+use Rattle.layout.specs.Chain.{walks, nextAt}
+use Rattle.layout.specs.Memory.{listOf, modelOf, soundOf}
+use Rattle.layout.proofs.Links.{walks-parts}
+use Rattle.layout.proofs.Soundness.{sound-parts}
+use Rattle.layout.proofs.Models.{model-sound}
 use Rattle.items.proofs.Showing.{visible-room}
 use Rattle.runs.specs.declared.run.Run.{Run}
 use Rattle.runs.specs.declared.cursor.Cursor.{Cursor}

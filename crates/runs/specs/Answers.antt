@@ -4,8 +4,8 @@ use mathlib.Core.Bool.{Bool, true, false, cond}
 use mathlib.Core.List.{List, [], _∷_, _++_}
 use lib.Dec.{leb}
 use lib.ListN.{length, take, drop}
-use Rattle.items.specs.declared.head.Head.{Head}
-use Rattle.items.specs.Memory.{listOf, soundOf}
+use Rattle.layout.specs.declared.head.Head.{Head}
+use Rattle.layout.specs.Memory.{listOf, soundOf}
 use Rattle.runs.specs.declared.run.Run.{Run}
 use Rattle.runs.specs.declared.calls.Count.{Count}
 use Rattle.runs.specs.declared.calls.Found.{Found}

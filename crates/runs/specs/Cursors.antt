@@ -12,10 +12,10 @@ use Rattle.rules.specs.Reading.{visible, Glyph}
 use Rattle.rules.specs.Runs.{runsFrom}
 use Rattle.rules.specs.Sound.{AllFit}
 use Rattle.items.specs.Calls.{shownLen}
-use Rattle.items.specs.declared.word.Item.{Item as Entry}
-use Rattle.items.specs.declared.head.Head.{Head}
-use Rattle.items.specs.Word.{whatOf}
-use Rattle.items.specs.Chain.{chain, walks, itemAt}
+use Rattle.layout.specs.declared.word.Item.{Item as Entry}
+use Rattle.layout.specs.declared.head.Head.{Head}
+use Rattle.layout.specs.Word.{whatOf}
+use Rattle.layout.specs.Chain.{chain, walks, itemAt}
 use Rattle.runs.specs.declared.run.Run.{Run}
 use Rattle.runs.specs.declared.cursor.Spot.{Spot}
 use Rattle.runs.specs.declared.cursor.Cursor.{Cursor}

@@ -2,8 +2,8 @@
 use crate::cursor::Cursor;
 use crate::cursor::next_run;
 use crate::run::Run;
-use items::head::Head;
-use items::sound::sound;
+use layout::head::Head;
+use soundness::sound;
 ghost use mathlib.Core.Path.{_≡_};
 ghost use Rattle.runs.specs.Cursors.{Stands, Tallied, Nth};
 ghost use Rattle.runs.specs.Answers.{counted, planned, said, runAt};

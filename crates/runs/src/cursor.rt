@@ -1,15 +1,15 @@
 // The next run, from a place in the list: by value, so that whoever reads on goes on where the run before ended.
 use crate::run::Run;
 use attrs::Attrs;
-use items::calls::shown_len;
-use items::head::Head;
-use items::word::Content;
-use items::word::Item;
-use items::word::unpack;
+use items::shown_len;
+use layout::head::Head;
+use layout::word::Content;
+use layout::word::Item;
+use layout::word::unpack;
 ghost use mathlib.Core.Path.{_≡_};
 ghost use Prim.Native.Nat.{_+_, _<_};
 ghost use Rattle.items.specs.Calls.{shownLen};
-ghost use Rattle.items.specs.Word.{whatOf};
+ghost use Rattle.layout.specs.Word.{whatOf};
 ghost use Rattle.runs.specs.Cursors.{passesOf, markOn, passedBy, stopsAt, endsBy, pastOf, textRecord, embedRecord, startOf, Stands, Skipped, Gathered, Next};
 
 // A place in the list: the next item and how many are left with it, the visible units to its left, and what is in force there.

@@ -4,7 +4,7 @@ use crate::calls::plan;
 use crate::cursor::Cursor;
 use crate::cursor::next_run;
 use crate::run::Run;
-use items::head::Head;
+use layout::head::Head;
 ghost use Rattle.runs.specs.Fills.{Filled, paged};
 ghost use mathlib.Core.Path.{_≡_};
 

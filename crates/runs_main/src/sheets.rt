@@ -1,12 +1,12 @@
 // Small sheets, and what is written of their runs.
-use items::head::Head;
-use items::word::Content;
-use items::word::Item;
+use layout::head::Head;
+use layout::word::Content;
+use layout::word::Item;
 use runs::calls::Found;
 use runs::run::Run;
 
 pub fn word(next: u32, content: Content, dead: bool) -> u64 {
-    items::word::pack(Item {
+    layout::word::pack(Item {
         next,
         content,
         dead,

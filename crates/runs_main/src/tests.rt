@@ -11,7 +11,7 @@ use crate::sheets::text;
 use crate::sheets::tried;
 use crate::sheets::units;
 use crate::sheets::words_of;
-use items::head::Head;
+use layout::head::Head;
 use runs::run::Run;
 
 pub fn empty() {

@@ -13,10 +13,10 @@ use Rattle.attrs.specs.Sets.{Set}
 use Rattle.rules.specs.Edits.{byIndex}
 use Rattle.rules.specs.Calls.{Sheet}
 use Rattle.rules.specs.Rulings.{Ruling, seen, asIs, ruling}
-use Rattle.items.specs.declared.head.Head.{Head}
-use Rattle.items.specs.Memory.{listOf, modelOf, soundOf, storedUnits}
-use Rattle.items.proofs.Soundness.{sound-parts}
-use Rattle.items.proofs.Models.{used-length}
+use Rattle.layout.specs.declared.head.Head.{Head}
+use Rattle.layout.specs.Memory.{listOf, modelOf, soundOf, storedUnits}
+use Rattle.layout.proofs.Soundness.{sound-parts}
+use Rattle.layout.proofs.Models.{used-length}
 use Rattle.changes.specs.Changes.{moveOf, Ready}
 use Rattle.sheet.specs.Inserts.{textCall, embedCall, textChange, embedChange}
 

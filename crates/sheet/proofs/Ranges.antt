@@ -11,8 +11,8 @@ use Rattle.rules.specs.Edits.{byIndex, removeHere}
 use Rattle.rules.specs.Calls.{Sheet, badRange, tooLong, removeRange}
 use Rattle.rules.specs.Rulings.{Ruling, seen, asIs, ruling}
 use Rattle.laws.proofs.Shows.{length-seen}
-use Rattle.items.specs.declared.head.Head.{Head}
-use Rattle.items.specs.Memory.{listOf, modelOf}
+use Rattle.layout.specs.declared.head.Head.{Head}
+use Rattle.layout.specs.Memory.{listOf, modelOf}
 use Rattle.sheet.specs.Ranges.{removalFault}
 
 -- the length that is read is the rules'

@@ -21,10 +21,10 @@ use Rattle.laws.proofs.Rulings.{call-exactly}
 use Rattle.laws.proofs.Calls.{call-sound, call-before}
 use Rattle.laws.proofs.Shows.{call-cells}
 use Rattle.laws.proofs.Points.{format-points}
-use Rattle.items.specs.declared.head.Head.{Head}
-use Rattle.items.specs.Memory.{listOf, modelOf, soundOf, Carried, keptAll, carry}
-use Rattle.items.proofs.Soundness.{sound-parts}
-use Rattle.items.proofs.Models.{model-sound}
+use Rattle.layout.specs.declared.head.Head.{Head}
+use Rattle.layout.specs.Memory.{listOf, modelOf, soundOf, Carried, keptAll, carry}
+use Rattle.layout.proofs.Soundness.{sound-parts}
+use Rattle.layout.proofs.Models.{model-sound}
 use Rattle.items.proofs.Carries.{carry-broken, carry-refused, carry-done, carry-sound, carry-model}
 
 module _ (c : Call) (h : Head) (m u : List ℕ) where

@@ -4,7 +4,7 @@ use mathlib.Core.Bool.{Bool, true, false}
 use mathlib.Core.List.{List}
 use Rattle.attrs.specs.Sets.{Set}
 use Rattle.rules.specs.Calls.{Call, insertText, insertTextWith, insertEmbed, insertEmbedWith}
-use Rattle.items.specs.declared.word.Content.the-variants.{Text, Embed, Mark}
+use Rattle.layout.specs.declared.word.Content.the-variants.{Text, Embed, Mark}
 use Rattle.changes.specs.declared.change.Change.{Change}
 use Rattle.changes.specs.declared.change.Change.the-variants.{PlainText, PlainEmbed, With, Format, Remove}
 

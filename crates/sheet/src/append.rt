@@ -5,7 +5,7 @@ ghost use mathlib.Core.List.{_++_};
 ghost use Prim.Native.Nat.{_+_, _≤_};
 ghost use lib.Dec.{eqb};
 ghost use lib.ListN.{length, take};
-ghost use Rattle.items.specs.Memory.{storedUnits};
+ghost use Rattle.layout.specs.Memory.{storedUnits};
 
 // Only where the edit was accepted, so that a refused one leaves the units alone.
 pub(crate) fn append_accepted(refusal: u32, units: &mut [u16], used: u32, chunk: &[u16])

@@ -4,11 +4,11 @@ ghost use mathlib.Core.Bool.{true, cond, not};
 ghost use Rattle.units.specs.Surrogates.{paired, splitsPair};
 ghost use Rattle.rules.specs.Calls.{badRange};
 ghost use Rattle.rules.specs.Rulings.{seen};
-ghost use Rattle.items.specs.Memory.{soundOf, modelOf};
+ghost use Rattle.layout.specs.Memory.{soundOf, modelOf};
 ghost use Rattle.sheet.specs.Ranges.{removalFault};
 use cuts::cuts_pair;
-use items::calls::visible_len;
-use items::head::Head;
+use items::visible_len;
+use layout::head::Head;
 
 // The index is of 64 bits, so that an index and a length add up exactly.
 fn in_pair(h: Head, items: &[u64], units: &[u16], index: u64) -> bool

@@ -3,7 +3,7 @@ ghost use mathlib.Core.Path.{_≡_};
 ghost use Prim.Native.Nat.{_<_, _≤_, _+_};
 ghost use Rattle.attrs.specs.Packed.{says};
 ghost use Rattle.rules.specs.Calls.{insertText, insertTextWith, insertEmbed, insertEmbedWith};
-ghost use Rattle.items.specs.Memory.{carry};
+ghost use Rattle.layout.specs.Memory.{carry};
 ghost use Rattle.changes.specs.Frame.{leaving};
 ghost use Rattle.sheet.specs.Inserts.{textCall, embedCall, textChange, embedChange};
 use crate::append::append_accepted;
@@ -12,10 +12,10 @@ use crate::faults::text_fault;
 use attrs::Attrs;
 use changes::change::Change;
 use changes::frame::edit;
-use items::calls::Answer;
-use items::head::Head;
-use items::sound::sound;
-use items::word::Content;
+use items::Answer;
+use layout::head::Head;
+use layout::word::Content;
+use soundness::sound;
 
 fn text_change(plain: bool, start: u32, len: u32) -> Change
     ensures { λ r. ⌜ r ≡ textChange plain start len ⌝ }

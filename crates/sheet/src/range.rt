@@ -2,16 +2,16 @@
 ghost use mathlib.Core.Path.{_≡_};
 ghost use Rattle.attrs.specs.Packed.{says};
 ghost use Rattle.rules.specs.Calls.{formatRange, removeRange};
-ghost use Rattle.items.specs.Memory.{carry};
+ghost use Rattle.layout.specs.Memory.{carry};
 ghost use Rattle.changes.specs.Frame.{leaving};
 use crate::faults::range_fault;
 use crate::faults::removal_fault;
 use attrs::Attrs;
 use changes::change::Change;
 use changes::frame::edit;
-use items::calls::Answer;
-use items::head::Head;
-use items::sound::sound;
+use items::Answer;
+use layout::head::Head;
+use soundness::sound;
 
 // A length past the end formats to the end.
 pub fn format(

@@ -1,13 +1,13 @@
 // Bench pieces over the real calls: of each, the refusal, the length, and the list item by item, each item with its number
 // (`-` behind the number: deleted).
 use attrs::Attrs;
-use items::calls::Answer;
-use items::calls::len;
-use items::calls::text_of;
-use items::head::Head;
-use items::word::Content;
-use items::word::Item;
-use items::word::unpack;
+use items::Answer;
+use items::len;
+use items::text_of;
+use layout::head::Head;
+use layout::word::Content;
+use layout::word::Item;
+use layout::word::unpack;
 use sheet::insert::insert;
 use sheet::insert::insert_embed;
 use sheet::insert::insert_with_attributes;

@@ -3,7 +3,7 @@ use mathlib.Core.Path.{sym, _∙_}
 use borrow.Author.Needs.{needs}
 use borrow.Author.Tests.{eqb-true}
 use denote.Ref.{now}
-use Rattle.items.specs.Memory.{listOf}
+use Rattle.layout.specs.Memory.{listOf}
 use Rattle.cuts.proofs.Bare.{none-cut}
 use Rattle.cuts.proofs.cuts_pair.Statement.{statement}
 use Rattle.cuts.proofs.cuts_pair.Tie as tie

@@ -7,8 +7,8 @@ use borrow.Author.Needs.{needs}
 use lib.ListN.{length}
 use denote.Ref.{now}
 use Rattle.rules.specs.Sound.{AllFit}
-use Rattle.items.specs.Chain.{chain, walks}
-use Rattle.items.proofs.Links.{walks-lt, walks-next}
+use Rattle.layout.specs.Chain.{chain, walks}
+use Rattle.layout.proofs.Links.{walks-lt, walks-next}
 use Rattle.cuts.specs.Cuts.{cutAt}
 use Rattle.cuts.proofs.Seams.{seam}
 use Rattle.cuts.proofs.Falls.{falls-in, falls-past, falls-end, lies-here, fits-on}
@@ -17,8 +17,8 @@ use Rattle.cuts.proofs.falls_in_pair.Tie as tie
 use Rattle.cuts.proofs.falls_in_pair.Reads as reads
 use Rattle.cuts.proofs.falls_in_pair.Lts as lts
 use Rattle.cuts.proofs.cuts_piece.Reads as cuts-piece-reads
-use Rattle.items.proofs.calls.shown_len.Reads as shown-len-reads
-use Rattle.items.proofs.word.unpack.Reads as unpack-reads
+use Rattle.items.proofs.shown_len.Reads as shown-len-reads
+use Rattle.layout.proofs.word.unpack.Reads as unpack-reads
 
 abbrev Inv-loop : tie.InvT-loop
 Inv-loop items used index k₀ at₀ rest₀ k at rest =

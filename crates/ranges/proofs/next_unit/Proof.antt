@@ -1,5 +1,5 @@
 -- `ranges::next_unit` meets its contract. Assumes nothing.
-use Rattle.items.specs.Chain.{itemAt}
+use Rattle.layout.specs.Chain.{itemAt}
 use Rattle.ranges.proofs.next_unit.Statement.{statement}
 use Rattle.ranges.proofs.next_unit.Tie as tie
 use Prim.Native.Nat.{_-_, _<_}

@@ -6,7 +6,7 @@ use lib.ListN.{length}
 use borrow.Author.Needs.{needs}
 use Rattle.rules.specs.Reading.{visible}
 use Rattle.rules.specs.Calls.{badRange}
-use Rattle.items.specs.Memory.{listOf, soundOf}
+use Rattle.layout.specs.Memory.{listOf, soundOf}
 use Rattle.ranges.specs.Texts.{visibleIn, textIn, showing}
 use Rattle.runs.proofs.Fronts.{length-written}
 use Rattle.ranges.proofs.Texts.{place}

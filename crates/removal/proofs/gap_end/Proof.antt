@@ -4,7 +4,7 @@ use native.Mathlib.Omega.{arith}
 use borrow.Author.Needs.{needs}
 use borrow.Author.Tests.{not-true, not-false}
 use denote.Ref.{now}
-use Rattle.items.specs.declared.head.Head.{Head}
+use Rattle.layout.specs.declared.head.Head.{Head}
 use Rattle.arena.specs.Places.{Standing, Going}
 use Rattle.arena.proofs.Carried.{going-start}
 use Rattle.arena.proofs.Standing.{right-lt}

@@ -5,7 +5,7 @@ use mathlib.Core.Path.{_≡_, sym, ap, _∙_}
 use native.Mathlib.Omega.{arith}
 use borrow.Author.Needs.{needs}
 use lib.ListN.{length}
-use Rattle.items.specs.declared.head.Head.{Head}
+use Rattle.layout.specs.declared.head.Head.{Head}
 use Rattle.arena.specs.Places.{Standing, Going}
 use Rattle.arena.proofs.Carried.{going-start}
 use Rattle.arena.proofs.Standing.{right-lt}

@@ -7,7 +7,7 @@ use Rattle.sheet_main.proofs.embeds.Statement.{statement}
 use Rattle.sheet_main.proofs.embeds.Tie as tie
 use Rattle.sheet_main.proofs.embeds.Reads as reads
 use Rattle.sheet_main.proofs.embeds.Lts as lts
-use Rattle.items.proofs.head.Head.fresh.Reads as fresh-reads
+use Rattle.layout.proofs.head.Head.fresh.Reads as fresh-reads
 use Rattle.sheet.proofs.insert.insert_embed.Reads as insert-embed-reads
 
 abbrev Inv-loop : tie.InvT-loop

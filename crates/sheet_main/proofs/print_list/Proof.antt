@@ -5,8 +5,8 @@ use Rattle.sheet_main.proofs.print_list.Statement.{statement}
 use Rattle.sheet_main.proofs.print_list.Tie as tie
 use Rattle.sheet_main.proofs.print_list.Reads as reads
 use Rattle.sheet_main.proofs.print_list.Lts as lts
-use Rattle.items.proofs.calls.text_of.Reads as text-of-reads
-use Rattle.items.proofs.word.unpack.Reads as unpack-reads
+use Rattle.items.proofs.text_of.Reads as text-of-reads
+use Rattle.layout.proofs.word.unpack.Reads as unpack-reads
 use Rattle.sheet_main.proofs.print_item.Reads as print-item-reads
 
 abbrev Inv-loop : tie.InvT-loop

@@ -4,7 +4,7 @@ use mathlib.Core.Bool.{true, false}
 use lib.ListN.{length}
 use borrow.Author.Tests.{not-true, not-false}
 use denote.Ref.{now}
-use Rattle.items.specs.Memory.{soundOf}
+use Rattle.layout.specs.Memory.{soundOf}
 use Rattle.deltas.specs.Checks.{manyOf}
 use Rattle.deltas.proofs.Applying.{carried-unsound, carried-many, carried-short, carried-ruled}
 use borrow.Author.Needs.{needs}

@@ -6,7 +6,7 @@ use mathlib.Core.List.{_++_}
 use lib.ListN.{length, take}
 use denote.Ref.{now}
 use Rattle.rules.specs.Calls.{Call, applyDelta, newUnits}
-use Rattle.items.proofs.Soundness.{sound-parts}
+use Rattle.layout.proofs.Soundness.{sound-parts}
 use Rattle.changes.proofs.Sounds.{sound-loads}
 use Rattle.changes.proofs.Calls.{carry-faulty, carry-crowded, carry-granted}
 use Rattle.ops.specs.Ops.{opsOf}

@@ -5,7 +5,7 @@ use mathlib.Core.Path.{_≡_, ap, _∙_}
 use mathlib.Core.List.{_∷_}
 use lib.ListN.{length, getD, drop}
 use Rattle.rules.specs.Calls.{visibleUnits}
-use Rattle.items.specs.Memory.{listOf}
+use Rattle.layout.specs.Memory.{listOf}
 use Rattle.ops.specs.Ops.{opsOf}
 use Rattle.carrying.specs.Turns.{given}
 use Rattle.deltas.specs.Faults.{placeAfter}

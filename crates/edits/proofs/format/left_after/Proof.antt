@@ -7,7 +7,7 @@ use Rattle.edits.proofs.format.left_after.Tie as tie
 use Rattle.edits.proofs.format.left_after.Reads as reads
 use Rattle.edits.proofs.format.left_after.Lts as lts
 use Rattle.arena.proofs.find.width.Reads as width-reads
-use Rattle.items.proofs.word.unpack.Reads as unpack-reads
+use Rattle.layout.proofs.word.unpack.Reads as unpack-reads
 
 returns : tie.Need-returns
 returns c = rw (ne-eqb _ _ (c .if1 .taken))

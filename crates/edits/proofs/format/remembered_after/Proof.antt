@@ -2,8 +2,8 @@ use Rattle.arena.specs.Places.{InRange}
 use Rattle.attrs.proofs.Force.{says-without, says-with}
 use Rattle.attrs.specs.Packed.{says}
 use Rattle.attrs.specs.declared.Took.{Took}
-use Rattle.items.specs.declared.word.Content.the-variants.{Mark}
-use Rattle.items.specs.declared.word.Item.{Item}
+use Rattle.layout.specs.declared.word.Content.the-variants.{Mark}
+use Rattle.layout.specs.declared.word.Item.{Item}
 use mathlib.Core.Path.{_≡_, refl, sym, ap, _∙_}
 use borrow.Author.Tests.{eq-eqb, ne-eqb, le-leb, lt-leb, lt-ltb, le-ltb, not-true, not-false}
 use borrow.Author.Needs.{needs}
@@ -14,7 +14,7 @@ use Rattle.edits.proofs.format.remembered_after.Lts as lts
 use Rattle.attrs.proofs.Attrs.with.Reads as with-reads
 use Rattle.attrs.proofs.Attrs.without.Reads as without-reads
 use Rattle.attrs.proofs.Attrs.agrees.Reads as agrees-reads
-use Rattle.items.proofs.word.unpack.Reads as unpack-reads
+use Rattle.layout.proofs.word.unpack.Reads as unpack-reads
 
 returns : tie.Need-returns
 returns c = rw (ne-eqb _ _ (c .if1 .taken))

@@ -8,7 +8,7 @@ use Rattle.edits.proofs.format.turn_of.Reads as reads
 use Rattle.edits.proofs.format.turn_of.Lts as lts
 use Rattle.edits.proofs.format.live_turn.Reads as live-turn-reads
 use Rattle.edits.proofs.format.walks_on.Reads as walks-on-reads
-use Rattle.items.proofs.word.unpack.Reads as unpack-reads
+use Rattle.layout.proofs.word.unpack.Reads as unpack-reads
 
 unpack-requires : tie.Need-unpack-requires
 unpack-requires c κs = search needs

@@ -7,7 +7,7 @@ use Prim.Native.Nat.{_+_, _<_, _≤_}
 use mathlib.Core.Path.{_≡_, sym, _∙_}
 use lib.ListN.{length}
 use denote.Ref.{now}
-use Rattle.items.proofs.Links.{walks-lt}
+use Rattle.layout.proofs.Links.{walks-lt}
 use Rattle.events.proofs.Texts.{Filling, filling-start, filling-step, piece-here, fill-end}
 
 abbrev Inv-loop : tie.InvT-loop

@@ -6,7 +6,7 @@ use Prim.Native.Nat.{ℕ, _+_, _<_, _≤_}
 use mathlib.Core.Path.{_≡_, refl, sym, ap, _∙_}
 use lib.ListN.{length}
 use denote.Ref.{now}
-use Rattle.items.proofs.Links.{walks-lt}
+use Rattle.layout.proofs.Links.{walks-lt}
 use Rattle.assembling.proofs.Pendings.{inserted-le}
 use Rattle.events.proofs.Going.{Walking, walking-start, walking-step, walking-end, wide, told-one, told-long}
 use borrow.Author.Needs.{needs}

@@ -2,7 +2,7 @@
 use Prim.Native.Nat.{_<_}
 use native.Mathlib.Omega.{arith}
 use mathlib.Core.Path.{ap}
-use Rattle.items.specs.Word.{whatOf}
+use Rattle.layout.specs.Word.{whatOf}
 use Rattle.runs.specs.declared.cursor.Spot.{Spot}
 use Rattle.runs.proofs.Spots.{Stepped, steps, next-none, next-embed, next-text}
 use borrow.Author.Needs.{needs}

@@ -47,9 +47,9 @@ use denote.Triple.Table.{entered, cited}
 use denote.Triple.Walked.{says, Stays, stay-slice, stay-none, stay-none-slice, walkOf, goes-none, goes-none-slice, goes-slice, Walks, ends-at, walked, walk-meets}
 use denote.Exit.{yes}
 use denote.Signature.{plain}
-use Rattle.items.specs.declared.head.Head.{Head}
-use Rattle.items.proofs.head.Head as He
-use Rattle.items.proofs.head.Head.Laws as He′
+use Rattle.layout.specs.declared.head.Head.{Head}
+use Rattle.layout.proofs.head.Head as He
+use Rattle.layout.proofs.head.Head.Laws as He′
 use Rattle.runs.specs.declared.calls.Count.{Count}
 use Rattle.runs.specs.declared.cursor.Cursor.{Cursor}
 use Rattle.runs.specs.declared.run.Run.{Run}

@@ -46,9 +46,9 @@ use denote.Triple.Spec.{Meets, tripleOf}
 use denote.Triple.Statement.{Contract, Triple}
 use denote.Triple.Table.{entered, cited}
 use denote.Triple.Walked.{says, Stays, stay-none, stay-none-slice, walkOf, goes-none, goes-none-slice, Walks, ends-at, walked, walk-meets}
-use Rattle.items.specs.declared.head.Head.{Head}
-use Rattle.items.proofs.head.Head as He
-use Rattle.items.proofs.head.Head.Laws as He′
+use Rattle.layout.specs.declared.head.Head.{Head}
+use Rattle.layout.proofs.head.Head as He
+use Rattle.layout.proofs.head.Head.Laws as He′
 use Rattle.runs.specs.declared.calls.Count.{Count}
 use Rattle.runs.specs.declared.run.Run.{Run}
 use Rattle.runs.specs.Answers.{written, recordsIn}

@@ -4,7 +4,7 @@ use mathlib.Core.List.{List}
 use Prim.Native.Nat.{ℕ}
 use denote.Ref.{now}
 use Rattle.rules.specs.Rulings.{seen}
-use Rattle.items.specs.Memory.{modelOf}
+use Rattle.layout.specs.Memory.{modelOf}
 use Rattle.sheet.proofs.Ranges.{length-is, fault-pair, fault-zero, fault-short, fault-none}
 use borrow.Author.Needs.{needs}
 use Rattle.sheet.proofs.faults.removal_fault.Statement.{statement}

@@ -7,7 +7,7 @@ use denote.Ref.{now}
 use Rattle.attrs.specs.Packed.{says}
 use Rattle.rules.specs.Calls.{Call}
 use Rattle.rules.specs.Rulings.{ruling}
-use Rattle.items.specs.Memory.{modelOf, soundOf}
+use Rattle.layout.specs.Memory.{modelOf, soundOf}
 use Rattle.changes.specs.Changes.{Ready}
 use Rattle.sheet.specs.Inserts.{embedCall}
 use Rattle.changes.proofs.Works.{granted-by}

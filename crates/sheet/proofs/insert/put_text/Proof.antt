@@ -10,8 +10,8 @@ use denote.Ref.{now}
 use Rattle.attrs.specs.Packed.{says}
 use Rattle.rules.specs.Calls.{Call}
 use Rattle.rules.specs.Rulings.{ruling}
-use Rattle.items.specs.Memory.{modelOf, soundOf}
-use Rattle.items.proofs.Soundness.{sound-parts}
+use Rattle.layout.specs.Memory.{modelOf, soundOf}
+use Rattle.layout.proofs.Soundness.{sound-parts}
 use Rattle.changes.specs.Changes.{Ready}
 use Rattle.sheet.specs.Inserts.{textCall}
 use Rattle.changes.proofs.Works.{granted-by}

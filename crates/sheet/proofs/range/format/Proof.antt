@@ -5,7 +5,7 @@ use borrow.Author.Tests.{not-true, not-false}
 use denote.Ref.{now}
 use Rattle.attrs.specs.Packed.{says}
 use Rattle.rules.specs.Calls.{Call, formatRange}
-use Rattle.items.specs.Memory.{soundOf}
+use Rattle.layout.specs.Memory.{soundOf}
 use Rattle.changes.specs.Changes.{moveOf}
 use Rattle.changes.proofs.Sounds.{sound-loads}
 use Rattle.changes.proofs.Calls.{carry-unsound, carry-faulty, carry-edited}

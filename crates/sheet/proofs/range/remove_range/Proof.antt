@@ -4,7 +4,7 @@ use mathlib.Core.Bool.{true}
 use borrow.Author.Tests.{not-true, not-false}
 use denote.Ref.{now}
 use Rattle.rules.specs.Calls.{Call, removeRange}
-use Rattle.items.specs.Memory.{soundOf}
+use Rattle.layout.specs.Memory.{soundOf}
 use Rattle.changes.specs.Changes.{moveOf}
 use Rattle.changes.proofs.Sounds.{sound-loads}
 use Rattle.changes.proofs.Calls.{carry-unsound, carry-faulty, carry-quiet, carry-edited}

@@ -1,0 +1,4 @@
+pub mod Word
+pub mod Chain
+pub mod Heads
+pub mod Memory

@@ -1,0 +1,108 @@
+// An item and the word that holds it. The word is taken apart and put together here and nowhere else.
+ghost use mathlib.Core.Path.{_≡_};
+ghost use Prim.Native.Nat.{_<_, _≤_};
+ghost use Rattle.layout.specs.Word.{contentFrom, unpackOf, kindOf, payloadOf, flagOf, packOf, relinkOf, inRange};
+
+pub enum Content {
+    Text { start: u32, len: u32 },
+    Embed(u32),
+    Mark { key: u32, value: u32 },
+}
+
+// `gone` says that the item was deleted in the current transaction.
+pub struct Item {
+    pub next: u32,
+    pub content: Content,
+    pub dead: bool,
+    pub added: bool,
+    pub gone: bool,
+}
+
+fn content_of(k: u64, p: u64) -> Content
+    requires { ⌜ p < 4294967296 ⌝ }
+    ensures { λ r. ⌜ r ≡ contentFrom k p ⌝ }
+{
+    if k == 0 {
+        return Content::Text {
+            start: (p % 16384) as u32,
+            len: (p / 16384) as u32,
+        };
+    }
+    if k == 1 {
+        return Content::Embed(p as u32);
+    }
+    Content::Mark {
+        key: (p % 16) as u32,
+        value: (p / 16) as u32,
+    }
+}
+
+pub fn unpack(w: u64) -> Item
+    ensures { λ r. ⌜ r ≡ unpackOf w ⌝ }
+{
+    let q = w / 4096;
+    let content = content_of(q % 4, q / 32 % 4294967296);
+    Item {
+        next: (w % 4096) as u32,
+        content,
+        dead: q / 4 % 2 == 1,
+        added: q / 8 % 2 == 1,
+        gone: q / 16 % 2 == 1,
+    }
+}
+
+fn kind(c: Content) -> u64
+    ensures { λ r. ⌜ (r ≡ kindOf c) × (r ≤ 2) ⌝ }
+{
+    match c {
+        Content::Text { start: _, len: _ } => 0,
+        Content::Embed(_) => 1,
+        Content::Mark { key: _, value: _ } => 2,
+    }
+}
+
+fn payload(c: Content) -> u64
+    ensures { λ r. ⌜ (r ≡ payloadOf c) × (r < 70373039144960) ⌝ }
+{
+    match c {
+        Content::Text { start, len } => start as u64 + 16384 * (len as u64),
+        Content::Embed(n) => n as u64,
+        Content::Mark { key, value } => key as u64 + 16 * (value as u64),
+    }
+}
+
+fn flag(b: bool) -> u64
+    ensures { λ r. ⌜ (r ≡ flagOf b) × (r ≤ 1) ⌝ }
+{
+    if b { 1 } else { 0 }
+}
+
+pub fn pack(it: Item) -> u64
+    ensures { λ r. ⌜ r ≡ packOf it ⌝ }
+{
+    let c = it.content;
+    let k = kind(c);
+    let p = payload(c);
+    let d = flag(it.dead);
+    let a = flag(it.added);
+    let g = flag(it.gone);
+    it.next as u64 + 4096 * (k + 4 * d + 8 * a + 16 * g + 32 * p)
+}
+
+// The word with another link.
+pub fn relink(w: u64, n: u32) -> u64
+    requires { ⌜ n < 4096 ⌝ }
+    ensures { λ r. ⌜ r ≡ relinkOf w n ⌝ }
+{
+    w / 4096 * 4096 + n as u64
+}
+
+// Whether packing makes such words at all: the bits above the payload are free, and there are three kinds.
+pub fn in_range(w: u64) -> bool
+    ensures { λ r. ⌜ r ≡ inRange w ⌝ }
+{
+    if w >= 562949953421312 {
+        return false;
+    }
+    w / 4096 % 4 < 3
+}

@@ -1,0 +1,46 @@
+-- `items::sound::word_ok` meets its contract. Assumes nothing.
+use mathlib.Core.Path.{sym, _∙_}
+use borrow.Author.Tests.{not-true, not-false}
+use Rattle.layout.proofs.Soundness.{word-off, word-false, word-on}
+use borrow.Author.Needs.{needs}
+use Rattle.soundness.proofs.word_ok.Statement.{statement}
+use Rattle.soundness.proofs.word_ok.Tie as tie
+
+in-range-requires : tie.Need-in-range-requires
+in-range-requires c κs = search needs
+
+returns : tie.Need-returns
+returns c = sym (word-off _ _ _ (sym (c .before .in-range .ensures) ∙ not-true _ (c .if1 .taken)))
+
+unpack-requires : tie.Need-unpack-requires
+unpack-requires c κs = search needs
+
+flags-ok-requires : tie.Need-flags-ok-requires
+flags-ok-requires c κs = search needs
+
+returns-2 : tie.Need-returns-2
+returns-2 c =
+    sym (word-false _ _ _ (rw (c .before .before .unpack .ensures) at (sym (c .before .flags-ok .ensures) ∙ not-true _ (c .if2 .taken))))
+
+content-ok-requires : tie.Need-content-ok-requires
+content-ok-requires c κs = search needs
+
+returns-3 : tie.Need-returns-3
+returns-3 c =
+    let f = c .before .before in
+    let u = f .before in
+    let range = sym (u .before .before .in-range .ensures) ∙ not-false _ (u .before .if1 .left) in
+    let flags = rw (u .unpack .ensures) at (sym (f .flags-ok .ensures) ∙ not-false _ (c .before .if2 .left)) in
+    rw (u .unpack .ensures) at (c .content-ok .ensures) ∙ sym (word-on _ _ _ range flags)
+
+pub word-ok-spec : {M : Type 1} → statement M
+word-ok-spec =
+    tie.close
+    (tie.spec
+    in-range-requires
+    returns
+    unpack-requires
+    flags-ok-requires
+    returns-2
+    content-ok-requires
+    returns-3)

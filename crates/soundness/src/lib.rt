@@ -1,0 +1,140 @@
+// Whether a lent sheet is sound.
+use layout::head::Head;
+use layout::word::Content;
+use layout::word::in_range;
+use layout::word::unpack;
+ghost use mathlib.Core.Path.{_≡_};
+ghost use Prim.Native.Nat.{_≤_};
+ghost use lib.ListN.{length};
+ghost use Rattle.rules.specs.Sheet.{text};
+ghost use Rattle.layout.specs.Word.{whatOf};
+ghost use Rattle.soundness.specs.Walk.{Sized, Plain};
+ghost use Rattle.layout.specs.Memory.{flagsOk, lenOf, whatOk, wordOk, soundOf};
+
+fn flags_ok(dead: bool, added: bool, gone: bool) -> bool
+    ensures { λ r. ⌜ r ≡ flagsOk dead added gone ⌝ }
+{
+    if dead {
+        return gone || !added;
+    }
+    !gone
+}
+
+// `plain`, here and below: no used unit is half of a pair, so that none has to be looked at.
+fn piece_ok(start: u32, len: u32, units: &[u16], used: u32, plain: bool) -> bool
+    requires { ⌜ used ≤ length (now units) ⌝ }
+    requires { ⌜ Plain plain used (now units) ⌝ }
+    ensures { λ r. ⌜ r ≡ whatOk (now (units .entry)) used (text start len) ⌝ }
+{
+    if len == 0 {
+        return false;
+    }
+    if start as u64 + len as u64 > used as u64 {
+        return false;
+    }
+    if plain {
+        return true;
+    }
+    let a = start as usize;
+    let e = a + len as usize;
+    units::is_whole(&units[a..e])
+}
+
+fn content_ok(c: Content, units: &[u16], used: u32, plain: bool) -> bool
+    requires { ⌜ used ≤ length (now units) ⌝ }
+    requires { ⌜ Plain plain used (now units) ⌝ }
+    ensures { λ r. ⌜ r ≡ whatOk (now (units .entry)) used (whatOf c) ⌝ }
+{
+    match c {
+        Content::Text { start, len } => piece_ok(start, len, units, used, plain),
+        Content::Embed(_) => true,
+        Content::Mark { key, value } => {
+            if key < 16 {
+                return value < 256;
+            }
+            false
+        }
+    }
+}
+
+fn word_ok(w: u64, units: &[u16], used: u32, plain: bool) -> bool
+    requires { ⌜ used ≤ length (now units) ⌝ }
+    requires { ⌜ Plain plain used (now units) ⌝ }
+    ensures { λ r. ⌜ r ≡ wordOk (now (units .entry)) used w ⌝ }
+{
+    if !in_range(w) {
+        return false;
+    }
+    let it = unpack(w);
+    if !flags_ok(it.dead, it.added, it.gone) {
+        return false;
+    }
+    let c = it.content;
+    content_ok(c, units, used, plain)
+}
+
+fn text_len(c: Content) -> u32
+    ensures { λ r. ⌜ r ≡ lenOf (whatOf c) ⌝ }
+{
+    match c {
+        Content::Text { start: _, len } => len,
+        Content::Embed(_) => 0,
+        Content::Mark { key: _, value: _ } => 0,
+    }
+}
+
+// One walk by the links. It stops where the texts so far are longer than all of them may be, so that no unit is read more than
+// twice, however the pieces overlap.
+fn walk_ok(h: Head, items: &[u64], units: &[u16], plain: bool) -> bool
+    requires { ⌜ Sized h (now items) (now units) ⌝ }
+    requires { ⌜ Plain plain (h .units) (now units) ⌝ }
+    ensures { λ r. ⌜ r ≡ soundOf h (now (items .entry)) (now (units .entry)) ⌝ }
+{
+    let n = h.items;
+    let used = h.units;
+    let mut at = h.first;
+    let mut k = n;
+    let mut sum = 0;
+    while k > 0 {
+        if at >= n {
+            return false;
+        }
+        let i = at as usize;
+        let w = items[i];
+        if !word_ok(w, units, used, plain) {
+            return false;
+        }
+        let it = unpack(w);
+        let c = it.content;
+        sum += text_len(c);
+        if sum > used {
+            return false;
+        }
+        at = it.next;
+        k -= 1;
+    }
+    if at != Head::END {
+        return false;
+    }
+    sum == used
+}
+
+pub fn sound(h: Head, items: &[u64], units: &[u16]) -> bool
+    ensures { λ r. ⌜ r ≡ soundOf h (now (items .entry)) (now (units .entry)) ⌝ }
+{
+    if items.len() != 2048 {
+        return false;
+    }
+    if units.len() != 16384 {
+        return false;
+    }
+    if h.items > Head::ITEMS {
+        return false;
+    }
+    if h.units > Head::UNITS {
+        return false;
+    }
+    let used = h.units as usize;
+    let plain = units::is_plain(&units[..used]);
+    walk_ok(h, items, units, plain)
+}
