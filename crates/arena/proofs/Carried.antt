@@ -2,7 +2,7 @@
 use Prim.Native.Nat.{ℕ}
 use mathlib.Core.Path.{_≡_, refl, sym, ap, _∙_, fun-ext}
 use mathlib.Core.List.{List, _++_, append-assoc, append-nil}
-use Rattle.attrs.specs.Sets.{Env, none}
+use Rattle.sets.specs.Sets.{Env, none}
 use Rattle.rules.specs.Sheet.{Item}
 use Rattle.rules.specs.Reading.{live}
 use Rattle.rules.specs.Places.{At, Move, after, andThen}

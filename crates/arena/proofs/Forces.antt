@@ -7,7 +7,7 @@ use mathlib.Core.List.{List, [], _∷_, _++_}
 use lib.ListN.{getD, take}
 use borrow.Author.Tests.{ne-eqb}
 use Rattle.attrs.specs.declared.Took.{Took}
-use Rattle.attrs.specs.Sets.{Env, none, asSet}
+use Rattle.sets.specs.Sets.{Env, none, asSet}
 use Rattle.attrs.specs.Packed.{packed, envOf}
 use Rattle.attrs.proofs.Force.{update-packed, env-packed}
 use Rattle.rules.specs.Sheet.{Item}

@@ -7,7 +7,7 @@ use mathlib.Core.List.{List, [], _∷_, _++_, append-assoc, append-nil}
 use mathlib.Core.Bool.{true, false}
 use lib.ListN.{length, getD, length-append}
 use Rattle.attrs.specs.declared.Attrs.{Attrs}
-use Rattle.attrs.specs.Sets.{none}
+use Rattle.sets.specs.Sets.{none}
 use Rattle.rules.specs.Sheet.{Item, new, like, kill}
 use Rattle.rules.specs.Places.{Move, after, andThen, leftHalf, rightHalf}
 use Rattle.rules.specs.Edits.{putNew}

@@ -5,7 +5,7 @@ use mathlib.Core.Path.{_≡_, sym, ap, ap₂, _∙_}
 use mathlib.Core.List.{List, [], _∷_, _++_, append-assoc}
 use lib.ListN.{length, length-append}
 use lib.Seq.{length-take-le}
-use Rattle.attrs.specs.Sets.{Env, none}
+use Rattle.sets.specs.Sets.{Env, none}
 use Rattle.rules.specs.Sheet.{Item, kill}
 use Rattle.rules.specs.Places.{At, Move, over, after, whole}
 use Rattle.layout.specs.declared.head.Head.{Head}

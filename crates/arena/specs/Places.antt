@@ -5,7 +5,7 @@ use mathlib.Core.Bool.{Bool, true, false}
 use mathlib.Core.List.{List, [], _∷_}
 use lib.ListN.{length, getD, take, drop}
 use Rattle.attrs.specs.declared.Attrs.{Attrs}
-use Rattle.attrs.specs.Sets.{empty, none, asSet}
+use Rattle.sets.specs.Sets.{empty, none, asSet}
 use Rattle.attrs.specs.Packed.{packed, updateAt}
 use Rattle.rules.specs.Sheet.{Item, like, kill, width}
 use Rattle.rules.specs.Places.{At, Move, stay, over, after, andThen, leftHalf, rightHalf, place}

@@ -4,7 +4,7 @@ use native.Mathlib.Omega.{arith}
 use mathlib.Core.Path.{_≡_, refl, sym, ap, _∙_}
 use mathlib.Core.Bool.{Bool, true, false, cond, not}
 use Rattle.attrs.specs.declared.Attrs.{Attrs}
-use Rattle.attrs.specs.Sets.{Slot, absent, is, isAbsent, lay}
+use Rattle.sets.specs.Sets.{Slot, absent, is, isAbsent, lay}
 use Rattle.attrs.specs.Packed.{says, envOf}
 use Rattle.attrs.proofs.Says.{envOf-says}
 use Rattle.rules.specs.Event.{change}

@@ -4,7 +4,7 @@ use mathlib.Core.Bool.{Bool, true, false, cond, not, _&&_}
 use mathlib.Core.List.{List, [], _∷_}
 use lib.Dec.{eqb}
 use Rattle.attrs.specs.declared.Attrs.{Attrs}
-use Rattle.attrs.specs.Sets.{Slot, absent, is, empty, none, at}
+use Rattle.sets.specs.Sets.{Slot, absent, is, empty, none, at}
 use Rattle.attrs.specs.Packed.{says, envOf, packed, onto, withAt, updateAt}
 use Rattle.rules.specs.Sheet.{What, text, embed, mark, Flags}
 use Rattle.rules.specs.Reading.{Seen, live, before}

@@ -8,7 +8,7 @@ use crate::runs::starts;
 use attrs::Attrs;
 ghost use mathlib.Core.Path.{_≡_};
 ghost use mathlib.Core.Bool.{true, false};
-ghost use Rattle.attrs.specs.Sets.{absent, is};
+ghost use Rattle.sets.specs.Sets.{absent, is};
 ghost use Rattle.attrs.specs.Packed.{says, envOf};
 ghost use Rattle.rules.specs.Event.{change};
 ghost use Rattle.assembling.specs.Steps.{pendingOf, addedBy, breaksBy, changedBy, pastBy, markTurn};

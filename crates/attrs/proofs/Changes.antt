@@ -5,8 +5,8 @@ use Prim.Native.Nat.{ℕ, _<_}
 use lib.Dec.{ltb}
 use borrow.Author.Tests.{eq-eqb, ne-eqb}
 use Rattle.attrs.specs.declared.Attrs.{Attrs}
-use Rattle.attrs.specs.Sets.{Slot, absent, is, Set, Env, empty, lay, differs, opened, nullFor, completed}
-use Rattle.attrs.specs.Bits.{bit}
+use Rattle.sets.specs.Sets.{Slot, absent, is, Set, Env, empty, lay, differs, opened, nullFor, completed}
+use Rattle.sets.specs.Bits.{bit}
 use Rattle.attrs.specs.Packed.{says, envOf, packed, changed}
 use Rattle.attrs.proofs.Says.{says-packed, envOf-says}
 use Rattle.attrs.proofs.Slots.{says-clear, key-says}

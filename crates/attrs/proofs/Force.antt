@@ -7,9 +7,9 @@ use lib.Dec.{eqb, ltb}
 use borrow.Author.Tests.{lt-ltb, ltb-true, ltb-false, eqb-true}
 use Rattle.attrs.specs.declared.Attrs.{Attrs}
 use Rattle.attrs.specs.declared.Took.{Took}
-use Rattle.attrs.specs.Sets.{Slot, absent, is, Set, Env, empty, none, at, lay, nonNull, asSet, differs, opened, former, completed, nullFor, within}
+use Rattle.sets.specs.Sets.{Slot, absent, is, Set, Env, empty, none, at, lay, nonNull, asSet, differs, opened, former, completed, nullFor, within}
 use Rattle.attrs.specs.Packed.{says, envOf, packed, onto, taken, withAt, updateAt}
-use Rattle.attrs.proofs.Bits.{at-other}
+use Rattle.sets.proofs.Bits.{at-other}
 use Rattle.attrs.proofs.Says.{within-at, says-past, says-packed, says-onto, packed-ext, packed-within, onto-packed, envOf-says}
 use Rattle.attrs.proofs.Slots.{env-past}
 

@@ -1,7 +1,5 @@
-pub mod Bits
 pub mod Looks
 pub mod Says
-pub mod Keys
 pub mod Slots
 pub mod Tests
 pub mod Stores

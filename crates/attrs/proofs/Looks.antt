@@ -6,9 +6,9 @@ use native.Mathlib.Nat.{pow-suc, le-of-suc-le-suc, not-suc-le-zero, zero-lt-suc}
 use native.Mathlib.Omega.{arith}
 use lib.ListN.{length, getD}
 use Rattle.attrs.specs.declared.Attrs.{Attrs}
-use Rattle.attrs.specs.Bits.{bit}
+use Rattle.sets.specs.Bits.{bit}
 use Rattle.attrs.specs.Packed.{Held, hidden, holds, held, look, flag, byte, maskOf, valuesOf, make, Whole}
-use Rattle.attrs.proofs.Bits.{bit-lt, bits-settle}
+use Rattle.sets.proofs.Bits.{bit-lt, bits-settle}
 
 flag-held : (b v : ℕ) → b < 2 → flag (held b v) ≡ b
 flag-held zero v l = refl

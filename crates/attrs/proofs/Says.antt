@@ -5,7 +5,7 @@ use Prim.Native.Nat.{ℕ, _≤_, _<_}
 use lib.Dec.{ltb}
 use borrow.Author.Tests.{lt-ltb, le-ltb, ltb-true}
 use Rattle.attrs.specs.declared.Attrs.{Attrs}
-use Rattle.attrs.specs.Sets.{Slot, absent, is, Set, lay, within}
+use Rattle.sets.specs.Sets.{Slot, absent, is, Set, lay, within}
 use Rattle.attrs.specs.Packed.{Held, hidden, holds, look, seen, says, envOf, store, packed, onto, Whole}
 use Rattle.attrs.proofs.Looks.{made, look-make, whole-make, make-ext}
 

@@ -9,12 +9,12 @@ use lib.Dec.{eqb, ltb}
 use lib.ListN.{getD}
 use borrow.Author.Tests.{eqb-true, eqb-false}
 use Rattle.attrs.specs.declared.Attrs.{Attrs}
-use Rattle.attrs.specs.declared.Key.the-variants.{At}
-use Rattle.attrs.specs.Sets.{Slot, absent, is, keys, isAbsent, lay, slotIs, present}
-use Rattle.attrs.specs.Bits.{bit, keysOf, firstKey, restOf, Rest}
+use Rattle.sets.specs.declared.Key.the-variants.{At}
+use Rattle.sets.specs.Sets.{Slot, absent, is, keys, isAbsent, lay, slotIs, present}
+use Rattle.sets.specs.Bits.{bit, keysOf, firstKey, restOf, Rest}
 use Rattle.attrs.specs.Packed.{Held, hidden, holds, look, seen, flag, says, envOf}
-use Rattle.attrs.proofs.Bits.{bit-lt, bit-clear-same, bit-clear-other, low}
-use Rattle.attrs.proofs.Keys.{those-picks, picks-ext, keys-next, first-at, each, each-present}
+use Rattle.sets.proofs.Bits.{bit-lt, bit-clear-same, bit-clear-other, low}
+use Rattle.sets.proofs.Keys.{those-picks, picks-ext, keys-next, first-at, each, each-present}
 use Rattle.attrs.proofs.Looks.{flag-look}
 use Rattle.attrs.proofs.Says.{says-at, says-past}
 

@@ -8,10 +8,10 @@ use lib.ListN.{set, length-set}
 use lib.Seq.{getD-set-same, getD-set-other}
 use borrow.Author.Tests.{ltb-true, ltb-false, eqb-true, eqb-false}
 use Rattle.attrs.specs.declared.Attrs.{Attrs}
-use Rattle.attrs.specs.Sets.{Slot, absent, is, at, isAbsent}
-use Rattle.attrs.specs.Bits.{bit, BitSet}
+use Rattle.sets.specs.Sets.{Slot, absent, is, at, isAbsent}
+use Rattle.sets.specs.Bits.{bit, BitSet}
 use Rattle.attrs.specs.Packed.{Held, hidden, holds, held, look, flag, store, says, onto, Whole}
-use Rattle.attrs.proofs.Bits.{bit-clear-same, bit-clear-other, at-key, at-same, at-other}
+use Rattle.sets.proofs.Bits.{bit-clear-same, bit-clear-other, at-key, at-same, at-other}
 use Rattle.attrs.proofs.Looks.{flag-look}
 use Rattle.attrs.proofs.Says.{says-at, says-past, store-seen, is-onto, onto-same}
 use Rattle.attrs.proofs.Slots.{has-bit}

@@ -6,11 +6,11 @@ use native.Mathlib.Omega.{arith}
 use lib.Dec.{eqb}
 use borrow.Author.Tests.{eqb-true, eqb-false, eq-eqb, ne-eqb}
 use Rattle.attrs.specs.declared.Attrs.{Attrs}
-use Rattle.attrs.specs.Sets.{Slot, absent, is, Set, Env, keys, isAbsent, bare, isNone, sameForce, lay, nonNull, asSet, differs, opened, sameSlot, sameSets}
-use Rattle.attrs.specs.Bits.{bit}
+use Rattle.sets.specs.Sets.{Slot, absent, is, Set, Env, keys, isAbsent, bare, isNone, sameForce, lay, nonNull, asSet, differs, opened, sameSlot, sameSets}
+use Rattle.sets.specs.Bits.{bit}
 use Rattle.attrs.specs.Packed.{says, envOf, packed, Whole}
-use Rattle.attrs.proofs.Bits.{bit-lt, bit-zero, bits-settle}
-use Rattle.attrs.proofs.Keys.{every, every-at, at-every, every-ext, both-ways}
+use Rattle.sets.proofs.Bits.{bit-lt, bit-zero, bits-settle}
+use Rattle.sets.proofs.Keys.{every, every-at, at-every, every-ext, both-ways}
 use Rattle.attrs.proofs.Says.{says-packed}
 use Rattle.attrs.proofs.Slots.{says-clear, has-bit}
 

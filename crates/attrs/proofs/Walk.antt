@@ -6,10 +6,10 @@ use native.Mathlib.Omega.{arith}
 use lib.Dec.{eqb}
 use borrow.Author.Tests.{eqb-true, eqb-false}
 use Rattle.attrs.specs.declared.Attrs.{Attrs}
-use Rattle.attrs.specs.Sets.{Slot, is, Set, at}
-use Rattle.attrs.specs.Bits.{bit}
+use Rattle.sets.specs.Sets.{Slot, is, Set, at}
+use Rattle.sets.specs.Bits.{bit}
 use Rattle.attrs.specs.Packed.{look, says, store, onto, Whole}
-use Rattle.attrs.proofs.Bits.{bit-lt, bit-zero, bit-clear-same, bit-clear-other, at-same, at-other}
+use Rattle.sets.proofs.Bits.{bit-lt, bit-zero, bit-clear-same, bit-clear-other, at-same, at-other}
 use Rattle.attrs.proofs.Says.{says-at, store-seen, look-onto, whole-onto, is-onto}
 use Rattle.attrs.proofs.Slots.{Part, part-all, Turn}
 

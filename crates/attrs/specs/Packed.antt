@@ -7,8 +7,8 @@ use lib.Dec.{ltb}
 use lib.ListN.{length, getD}
 use Rattle.attrs.specs.declared.Attrs.{Attrs}
 use Rattle.attrs.specs.declared.Took.{Took}
-use Rattle.attrs.specs.Sets.{Slot, absent, is, Set, Env, at, lay, nonNull, differs, within}
-use Rattle.attrs.specs.Bits.{bit}
+use Rattle.sets.specs.Sets.{Slot, absent, is, Set, Env, at, lay, nonNull, differs, within}
+use Rattle.sets.specs.Bits.{bit}
 
 -- What lies in memory for a key: a byte that no reader sees, since the key is absent, or a value that is held.
 pub data Held : Type 0 where

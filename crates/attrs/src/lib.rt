@@ -1,11 +1,14 @@
 // Attribute sets: for each key 0 to 15 absent, null (0) or a value 1 to 255. A set goes by value.
 ghost use mathlib.Core.Path.{_≡_};
 ghost use mathlib.Core.Bool.{not};
-ghost use Prim.Native.Nat.{_<_, _^_};
+ghost use Prim.Native.Nat.{_<_};
 ghost use lib.ListN.{length};
-ghost use Rattle.attrs.specs.Sets.{absent, is, empty, keys, at, isAbsent, bare, slotIs, opened, former, completed, sameSets, present};
-ghost use Rattle.attrs.specs.Bits.{keysOf, firstKey, Rest, BitIs, BitSet};
+ghost use Rattle.sets.specs.Sets.{absent, is, empty, keys, at, isAbsent, bare, slotIs, opened, former, completed, sameSets, present};
 ghost use Rattle.attrs.specs.Packed.{says, envOf, packed, onto, withAt, updateAt, changed, Got};
+use sets::bit_at;
+use sets::bit_of;
+use sets::rest;
+use sets::set_bit;
 
 // A key is there where its bit of the mask is set. The byte of an absent key is never read.
 pub struct Attrs {
@@ -19,62 +22,10 @@ pub struct Took {
     pub attrs: Attrs,
 }
 
-pub enum Key {
-    At(u32),
-    Nothing,
-}
-
-fn bit_of(key: u32) -> u16
-    requires { ⌜ key < 16 ⌝ }
-    ensures { λ r. ⌜ r ≡ 2 ^ key ⌝ }
-{
-    1u16 << key
-}
-
-// A number, not a bool, so that a test of it is a fact of numbers.
-fn bit_at(mask: u16, key: u32) -> u16
-    requires { ⌜ key < 16 ⌝ }
-    ensures { λ r. ⌜ BitIs mask key r ⌝ }
-{
-    (mask >> key) % 2
-}
-
-fn set_bit(mask: u16, key: u32) -> u16
-    requires { ⌜ key < 16 ⌝ }
-    ensures { λ r. ⌜ BitSet mask key r ⌝ }
-{
-    if bit_at(mask, key) == 0 {
-        mask + bit_of(key)
-    } else {
-        mask
-    }
-}
-
 fn wide(x: u8) -> u32
     ensures { λ r. ⌜ (r ≡ x) × (r < 256) ⌝ }
 {
     x as u32
-}
-
-// The lowest key of a mask: with `rest`, the step of every walk over the keys of a set.
-pub fn lowest(mask: u16) -> Key
-    ensures { λ r. ⌜ r ≡ firstKey (keysOf mask) ⌝ }
-{
-    if mask == 0 {
-        Key::Nothing
-    } else {
-        Key::At(u16::trailing_zeros(mask))
-    }
-}
-
-// The mask without its lowest key.
-pub fn rest(mask: u16) -> u16
-    ensures { λ r. ⌜ Rest mask r ⌝ }
-{
-    if mask == 0 {
-        return mask;
-    }
-    mask - bit_of(u16::trailing_zeros(mask))
 }
 
 impl Attrs {

@@ -1,10 +1,10 @@
 // The calls of `attrs` at their limits: each check is proved from the promises, and run.
 ghost use mathlib.Core.Path.{_≡_};
-ghost use Rattle.attrs.specs.Sets.{keys, present};
+ghost use Rattle.sets.specs.Sets.{keys, present};
 ghost use Rattle.attrs.specs.Packed.{says, envOf};
 ghost use Rattle.attrs_main.specs.Sum.{sumOf};
 use attrs::Attrs;
-use attrs::Key;
+use sets::Key;
 
 // A walk over the keys from outside, by `lowest` and `rest`.
 fn total(a: Attrs) -> u32
@@ -13,11 +13,11 @@ fn total(a: Attrs) -> u32
     let mut left = a.mask;
     let mut sum: u32 = 0;
     loop {
-        let low = attrs::lowest(left);
+        let low = sets::lowest(left);
         let Key::At(k) = low else {
             return sum;
         };
-        left = attrs::rest(left);
+        left = sets::rest(left);
         sum = sum + a.get(k);
     }
 }

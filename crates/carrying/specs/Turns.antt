@@ -2,7 +2,7 @@
 use Prim.Native.Nat.{ℕ, _+_, _<_, _≤_}
 use mathlib.Core.List.{List, [], _∷_}
 use lib.ListN.{length, take}
-use Rattle.attrs.specs.Sets.{Set}
+use Rattle.sets.specs.Sets.{Set}
 use Rattle.attrs.specs.Packed.{says}
 use Rattle.rules.specs.Reading as rules
 use Rattle.rules.specs.Places.{At, Move, whole}

@@ -8,7 +8,7 @@ use lib.Dec.{leb, ltb}
 use lib.ListN.{length, getD, take, drop}
 use borrow.Author.Tests.{le-leb, lt-leb, lt-ltb}
 use Rattle.units.proofs.Halves.{both}
-use Rattle.attrs.specs.Sets.{Set, none}
+use Rattle.sets.specs.Sets.{Set, none}
 use Rattle.rules.specs.Sheet.{Item}
 use Rattle.rules.specs.Places.{At, Move, whole, andThen}
 use Rattle.rules.specs.Edits.{byIndex}

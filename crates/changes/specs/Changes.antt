@@ -1,7 +1,7 @@
 -- What an edit does at the place that its index gives.
 use mathlib.Core.Bool.{Bool, true, false}
 use Prim.Native.Nat.{ℕ}
-use Rattle.attrs.specs.Sets.{Set}
+use Rattle.sets.specs.Sets.{Set}
 use Rattle.rules.specs.Sheet.{text, embed}
 use Rattle.rules.specs.Places.{Move}
 use Rattle.rules.specs.Edits.{plainText, plainEmbed, insertWith, format, removeHere}

@@ -8,7 +8,7 @@ use mathlib.Core.List.{List, _∷_, map}
 use lib.ListN.{length, drop, drop-of-length-le}
 use borrow.Author.Tests.{lt-ltb, le-ltb, ltb-false}
 use Rattle.units.specs.Surrogates.{paired, splitsPair}
-use Rattle.attrs.specs.Sets.{Set}
+use Rattle.sets.specs.Sets.{Set}
 use Rattle.attrs.specs.Packed.{says}
 use Rattle.rules.specs.Reading as rules
 use Rattle.rules.specs.Calls.{Body, words, object, tooLong, check}

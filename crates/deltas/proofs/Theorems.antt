@@ -6,7 +6,7 @@ use mathlib.Core.Bool.{Bool, true, false}
 use mathlib.Core.List.{List, [], _∷_, map}
 use mathlib.Core.Logic.{_↔_}
 use lib.ListN.{length, getD, take}
-use Rattle.attrs.specs.Sets.{Set, keys}
+use Rattle.sets.specs.Sets.{Set, keys}
 use Rattle.attrs.specs.Packed.{says}
 use Rattle.rules.specs.Reading as rules
 use Rattle.rules.specs.Reading.{live, before, cells}

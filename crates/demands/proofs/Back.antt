@@ -5,7 +5,7 @@ use mathlib.Core.Path.{_≡_, refl, sym, ap, ap₂, _∙_}
 use mathlib.Core.List.{List, [], _∷_, _++_, map, append-assoc}
 use lib.ListN.{length, getD, take, drop, length-append}
 use lib.Seq.{take-append-seam, drop-at}
-use Rattle.attrs.specs.Sets.{Slot, absent, is, Set, empty}
+use Rattle.sets.specs.Sets.{Slot, absent, is, Set, empty}
 use Rattle.attrs.specs.Packed.{Held, hidden, byte, store, valuesOf, make, says, packed}
 use Rattle.attrs.proofs.Says.{says-packed, whole-packed}
 use Rattle.attrs.proofs.Force.{Keyed, within-keyed}

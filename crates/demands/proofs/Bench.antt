@@ -6,7 +6,7 @@ use mathlib.Core.Bool.{Bool, true, false, cond}
 use mathlib.Core.List.{List, [], _∷_, _++_, map, map-congr-left}
 use lib.Dec.{eqb}
 use lib.ListN.{length, take, drop}
-use Rattle.attrs.specs.Sets.{absent, is, empty, keys}
+use Rattle.sets.specs.Sets.{absent, is, empty, keys}
 use Rattle.rules.specs.Calls.{Sheet, freshSheet, Call, insertText, call}
 use Rattle.rules.specs.Rulings.{Byte, FineSet}
 use Rattle.rules.specs.PieceParts.{answer, Piece, piece, after as ruledAfter, refusals, played, one}

@@ -7,7 +7,7 @@ use mathlib.Core.Bool.{Bool, true, false, cond, not, _&&_}
 use mathlib.Core.List.{List, [], _∷_, _++_}
 use lib.Dec.{eqb}
 use borrow.Author.Tests.{eqb-true}
-use Rattle.attrs.specs.Sets.{Slot, absent, is, Set, Env, at, nonNull, asSet}
+use Rattle.sets.specs.Sets.{Slot, absent, is, Set, Env, at, nonNull, asSet}
 use Rattle.rules.specs.Sheet.{What, text, embed, mark, Item}
 use Rattle.rules.specs.Sound.{Fits, AllFit}
 use Rattle.rules.specs.Reading.{Seen, setKey, Glyph, unit, thing, unitsOf, Op, insert, delete, retain}

@@ -6,7 +6,7 @@ use mathlib.Core.Bool.{Bool, true, false, cond, not, true≢false}
 use mathlib.Core.List.{List, [], _∷_, _++_, map, append-assoc}
 use lib.ListN.{length, take, drop, length-append, length-map, drop-of-length-le}
 use lib.Seq.{take-append-seam, drop-at}
-use Rattle.attrs.specs.Sets.{Slot, Set, isAbsent, keys, those, present, asSet}
+use Rattle.sets.specs.Sets.{Slot, Set, isAbsent, keys, those, present, asSet}
 use Rattle.attrs.specs.Packed.{says, packed}
 use Rattle.attrs.proofs.Force.{says-in, env-in}
 use Rattle.rules.specs.Sheet.{Item}

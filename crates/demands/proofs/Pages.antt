@@ -8,7 +8,7 @@ use lib.Dec.{eqb}
 use lib.ListN.{length, getD, take, drop, length-append, List·getD-append}
 use lib.Seq.{getD-take}
 use borrow.Author.Tests.{eqb-true, eqb-false}
-use Rattle.attrs.specs.Sets.{Slot, lay, keys}
+use Rattle.sets.specs.Sets.{Slot, lay, keys}
 use Rattle.rules.specs.Sheet.{What, text, embed, mark, Item}
 use Rattle.rules.specs.Sound.{Fits, AllFit}
 use Rattle.rules.specs.Reading.{Seen, passKey, Glyph, unit, unitsOf, glyphs, Cell, paint, shown, cells, layCell, insert, delete, retain, read}

@@ -4,7 +4,7 @@ use mathlib.Core.Bool.{Bool, true, false}
 use mathlib.Core.List.{List, [], _∷_, map}
 use lib.ListN.{length, take}
 use mathlib.Core.Path.{_≡_}
-use Rattle.attrs.specs.Sets.{Set}
+use Rattle.sets.specs.Sets.{Set}
 use Rattle.attrs.specs.Packed.{says}
 use Rattle.rules.specs.Reading as rules
 use Rattle.rules.specs.Calls.{Body}

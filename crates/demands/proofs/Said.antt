@@ -7,7 +7,7 @@ use mathlib.Core.List.{List, [], _∷_, _++_, map}
 use lib.Dec.{eqb}
 use lib.ListN.{length, take}
 use lib.Seq.{getD-take}
-use Rattle.attrs.specs.Sets.{absent, is, Set, Env, isAbsent, keys, present, asSet}
+use Rattle.sets.specs.Sets.{absent, is, Set, Env, isAbsent, keys, present, asSet}
 use Rattle.attrs.specs.Packed.{says, packed}
 use Rattle.attrs.proofs.Force.{says-in}
 use Rattle.rules.specs.Sheet.{What, text, embed, mark, Item}

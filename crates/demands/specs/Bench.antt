@@ -2,7 +2,7 @@
 use Prim.Native.Nat.{ℕ}
 use mathlib.Core.Bool.{true, false, cond}
 use mathlib.Core.List.{List, [], _∷_, map}
-use Rattle.attrs.specs.Sets.{keys}
+use Rattle.sets.specs.Sets.{keys}
 use Rattle.attrs.specs.Packed.{says}
 use Rattle.rules.specs.Reading.{Glyph, unit, thing, Op, insert, delete, retain}
 use Rattle.rules.specs.Calls.{Sheet, Call, insertText}

@@ -4,7 +4,7 @@ use mathlib.Core.Path.{_≡_}
 use mathlib.Core.Bool.{Bool, true, false, cond}
 use mathlib.Core.List.{List, [], _∷_, _++_, map}
 use lib.ListN.{length, take, drop}
-use Rattle.attrs.specs.Sets.{keys, present}
+use Rattle.sets.specs.Sets.{keys, present}
 use Rattle.attrs.specs.Packed.{says, envOf}
 use Rattle.rules.specs.Reading.{Glyph, thing, Cell, paint, seenGlyphs}
 use Rattle.runs.specs.declared.run.Run.{Run}

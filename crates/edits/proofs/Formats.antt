@@ -7,7 +7,7 @@ use mathlib.Core.List.{List, [], _∷_}
 use lib.Dec.{eqb, leb, ltb}
 use lib.ListN.{length, length-set}
 use borrow.Author.Tests.{ltb-true, leb-false}
-use Rattle.attrs.specs.Sets.{Set, Env, keys, bare}
+use Rattle.sets.specs.Sets.{Set, Env, keys, bare}
 use Rattle.rules.specs.Sheet.{What, text, embed, mark, Item, dead, kill, width, isMark}
 use Rattle.rules.specs.Places.{At, Move, over, stay, split, andThen, after, close}
 use Rattle.rules.specs.Edits.{keyIn, remember, closing, walking, formatWalk}

@@ -3,7 +3,7 @@ use Prim.Native.Nat.{ℕ}
 use mathlib.Core.Path.{_≡_, ap, fun-ext, _∙_}
 use mathlib.Core.List.{List}
 use Rattle.attrs.specs.declared.Attrs.{Attrs}
-use Rattle.attrs.specs.Sets.{Set, empty, none, completed}
+use Rattle.sets.specs.Sets.{Set, empty, none, completed}
 use Rattle.attrs.specs.Packed.{says, envOf, packed, onto}
 use Rattle.attrs.proofs.Changes.{says-empty}
 use Rattle.rules.specs.Sheet.{What}

@@ -3,7 +3,7 @@ use Prim.Native.Nat.{ℕ, _-_}
 use mathlib.Core.Bool.{Bool, true, false, cond, not, _&&_, _||_}
 use mathlib.Core.List.{List}
 use lib.Dec.{eqb, leb, ltb}
-use Rattle.attrs.specs.Sets.{Set, keys, bare}
+use Rattle.sets.specs.Sets.{Set, keys, bare}
 use Rattle.rules.specs.Sheet.{What, width, isMark}
 use Rattle.rules.specs.Edits.{keyIn, remember}
 use Rattle.arena.specs.Writes.{killMem}

@@ -7,7 +7,7 @@ use mathlib.Core.List.{List, [], _∷_, _++_}
 use lib.Dec.{eqb}
 use borrow.Author.Tests.{lt-ltb}
 use Rattle.attrs.specs.declared.Attrs.{Attrs}
-use Rattle.attrs.specs.Sets.{Slot, absent, is, Set, Env, at, nonNull, asSet}
+use Rattle.sets.specs.Sets.{Slot, absent, is, Set, Env, at, nonNull, asSet}
 use Rattle.attrs.specs.Packed.{says, packed, onto, withAt, taken}
 use Rattle.attrs.specs.declared.Took.{Took}
 use Rattle.attrs.proofs.Says.{packed-ext}

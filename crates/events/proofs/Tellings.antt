@@ -9,7 +9,7 @@ use lib.Dec.{eqb, ltb}
 use lib.ListN.{length, take, set, length-append}
 use lib.Seq.{sets}
 use borrow.Author.Tests.{lt-ltb, le-ltb, ltb-true, ltb-false}
-use Rattle.attrs.specs.Sets.{Set, keys, bare, within}
+use Rattle.sets.specs.Sets.{Set, keys, bare, within}
 use Rattle.attrs.specs.Packed.{says, packed}
 use Rattle.attrs.proofs.Says.{says-packed}
 use Rattle.rules.specs.Reading.{Glyph, Op, insert, delete, retain}

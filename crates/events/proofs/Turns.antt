@@ -5,7 +5,7 @@ use native.Mathlib.Nat.{add-zero}
 use mathlib.Core.Path.{_≡_, refl, sym, ap, _∙_}
 use mathlib.Core.Bool.{Bool, true, false, cond}
 use mathlib.Core.List.{List, [], _∷_, _++_, append-nil}
-use Rattle.attrs.specs.Sets.{absent, is, Set, Env, asSet}
+use Rattle.sets.specs.Sets.{absent, is, Set, Env, asSet}
 use Rattle.attrs.specs.Packed.{packed}
 use Rattle.rules.specs.Sheet.{What}
 use Rattle.rules.specs.Reading.{Glyph, unit, thing, unitsOf, glyphs, insert, delete, retain}

@@ -6,7 +6,7 @@ use lib.Dec.{leb, ltb}
 use lib.ListN.{length, getD}
 use lib.Seq.{sets}
 use Rattle.attrs.specs.declared.Attrs.{Attrs}
-use Rattle.attrs.specs.Sets.{Set, empty, keys, bare}
+use Rattle.sets.specs.Sets.{Set, empty, keys, bare}
 use Rattle.attrs.specs.Packed.{says, packed}
 use Rattle.rules.specs.Sheet.{What, text, embed, mark, Item}
 use Rattle.rules.specs.Reading.{Seen, Glyph, unit, thing, unitsOf, Op, insert, delete, retain}

@@ -2,7 +2,7 @@
 use Prim.Native.Nat.{ℕ, zero, suc}
 use mathlib.Core.Path.{_≡_, refl, ap, _∙_, subst}
 use mathlib.Core.List.{List, [], _∷_, _++_, map, append-assoc}
-use Rattle.attrs.specs.Sets.{Env, none, keys}
+use Rattle.sets.specs.Sets.{Env, none, keys}
 use Rattle.rules.specs.Sheet.{Item}
 use Rattle.rules.specs.Reading.{live, Glyph, Cell, cells, force, Op, insert, delete, retain, read}
 use Rattle.rules.specs.Places.{At, whole, stay, after, andThen}

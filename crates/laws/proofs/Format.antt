@@ -9,7 +9,7 @@ use lib.Dec.{eqb, leb, ltb}
 use lib.ListN.{length, take, drop}
 use lib.Seq.{take-nil, drop-nil}
 use borrow.Author.Tests.{eqb-true, leb-true, leb-false, ltb-false}
-use Rattle.attrs.specs.Sets.{Slot, absent, is, isAbsent, bare, Set, Env, none, keys, lay, slotIs}
+use Rattle.sets.specs.Sets.{Slot, absent, is, isAbsent, bare, Set, Env, none, keys, lay, slotIs}
 use Rattle.rules.specs.Sheet.{What, text, embed, mark, Item, dead, kill}
 use Rattle.rules.specs.Reading.{live, Glyph, thing, unitsOf, Cell, paint, layCell, cells, force, passKey, shown}
 use Rattle.rules.specs.Places.{whole, over, andThen, split, close}

@@ -6,7 +6,7 @@ use mathlib.Core.Bool.{Bool, true, false, cond, not, _||_, true≢false}
 use mathlib.Core.List.{List, [], _∷_, _++_, append-assoc}
 use native.Mathlib.Omega.{arith}
 use lib.ListN.{length}
-use Rattle.attrs.specs.Sets.{keys}
+use Rattle.sets.specs.Sets.{keys}
 use Rattle.rules.specs.Sheet.{What, text, embed, mark, Flags, Item, dead, new, kill, begin}
 use Rattle.rules.specs.Reading.{live, before, unitsOf, glyphs, Cell, paint, cells, setKey, passKey, shown}
 use Rattle.rules.specs.Counts.{AllBelow}

@@ -8,7 +8,7 @@ use native.Mathlib.Omega.{arith}
 use lib.Dec.{eqb, leb}
 use lib.ListN.{drop}
 use borrow.Author.Tests.{leb-true, leb-false}
-use Rattle.attrs.specs.Sets.{absent, is, isAbsent, bare, Set, Env, none, keys, slotIs, isNone}
+use Rattle.sets.specs.Sets.{absent, is, isAbsent, bare, Set, Env, none, keys, slotIs, isNone}
 use Rattle.rules.specs.Sheet.{What, text, embed, mark, Item, dead, kill, width}
 use Rattle.rules.specs.Reading.{live, Glyph, seenGlyphs, force, Op, insert, delete, retain}
 use Rattle.rules.specs.Places.{At, whole, stay, over, Move, after, andThen, split, place, close}

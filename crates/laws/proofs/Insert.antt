@@ -6,7 +6,7 @@ use mathlib.Core.List.{List, [], _∷_, _++_, append-nil}
 use lib.Dec.{eqb}
 use lib.ListN.{take, drop}
 use borrow.Author.Tests.{eqb-true}
-use Rattle.attrs.specs.Sets.{Slot, absent, is, Set, Env, empty, keys, lay, nullFor, completed}
+use Rattle.sets.specs.Sets.{Slot, absent, is, Set, Env, empty, keys, lay, nullFor, completed}
 use Rattle.rules.specs.Sheet.{What, text, embed, mark, Item, new, isMark}
 use Rattle.rules.specs.Reading.{live, glyphs, paint, cells, force, setKey}
 use Rattle.rules.specs.Places.{whole, place, settle, put}

@@ -6,7 +6,7 @@ use mathlib.Core.List.{List, [], _∷_, _++_, map}
 use lib.ListN.{length}
 use lib.Dec.{ltb}
 use borrow.Author.Tests.{ltb-true}
-use Rattle.attrs.specs.Sets.{Slot, absent, is, Set, keys, bare, isAbsent, lay}
+use Rattle.sets.specs.Sets.{Slot, absent, is, Set, keys, bare, isAbsent, lay}
 use Rattle.rules.specs.Sheet.{What, text, embed, mark, width}
 use Rattle.rules.specs.Reading.{Glyph, unitsOf, glyphs, Cell, paint, layCell}
 

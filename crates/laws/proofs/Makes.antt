@@ -6,7 +6,7 @@ use mathlib.Core.Bool.{Bool, true, false, cond}
 use mathlib.Core.List.{List, [], _∷_, _++_, append-assoc}
 use native.Mathlib.Omega.{arith}
 use lib.ListN.{length, length-append}
-use Rattle.attrs.specs.Sets.{Set, Env, none, empty, keys, isNone}
+use Rattle.sets.specs.Sets.{Set, Env, none, empty, keys, isNone}
 use Rattle.rules.specs.Sheet.{What, text, embed, mark, Item}
 use Rattle.rules.specs.Reading.{Glyph, seenGlyphs, Op, insert, delete, retain}
 use Rattle.rules.specs.Places.{At, whole, stay, Move, after, andThen, place}

@@ -7,7 +7,7 @@ use mathlib.Core.List.{List, []}
 use lib.Dec.{eqb}
 use lib.ListN.{length}
 use borrow.Author.Tests.{eqb-true}
-use Rattle.attrs.specs.Sets.{Slot, absent, is, isAbsent, Set, Env, keys, lay, differs, opened, former}
+use Rattle.sets.specs.Sets.{Slot, absent, is, isAbsent, Set, Env, keys, lay, differs, opened, former}
 use Rattle.rules.specs.Sheet.{Item}
 use Rattle.rules.specs.Reading.{live, Cell, cells, force}
 use Rattle.rules.specs.Places.{Move, after, settle, marks, putMarks}

@@ -5,7 +5,7 @@ use mathlib.Core.List.{List, [], _∷_, _++_, map, append-assoc}
 use native.Mathlib.Omega.{arith}
 use lib.ListN.{length, getD, take, drop, length-take, length-drop, List·getD-append}
 use lib.Seq.{getD-append-add, getD-take, getD-drop, length-take-le}
-use Rattle.attrs.specs.Sets.{Set, keys}
+use Rattle.sets.specs.Sets.{Set, keys}
 use Rattle.rules.specs.Reading.{live, Cell, cells, layCell, visible}
 use Rattle.rules.specs.Calls.{Sheet, formatRange, call}
 use Rattle.rules.specs.Rulings.{Within}

@@ -9,7 +9,7 @@ use lib.Dec.{eqb, leb}
 use lib.ListN.{length, take, drop, take-append-drop}
 use lib.Seq.{drop-nil}
 use borrow.Author.Tests.{eqb-true, eqb-false, leb-true, leb-false}
-use Rattle.attrs.specs.Sets.{Env, keys, isNone}
+use Rattle.sets.specs.Sets.{Env, keys, isNone}
 use Rattle.rules.specs.Sheet.{What, text, embed, mark, Item, dead, kill, width, isMark}
 use Rattle.rules.specs.Reading.{live, Glyph, unitsOf, glyphs, Cell, paint, cells, force, passKey, shown}
 use Rattle.rules.specs.Places.{At, whole, stay, over, after, split}

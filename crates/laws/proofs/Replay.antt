@@ -7,7 +7,7 @@ use lib.Dec.{eqb}
 use lib.ListN.{length, take, drop, length-append, take-append-drop}
 use lib.Seq.{take-at, drop-at}
 use borrow.Author.Tests.{eqb-true}
-use Rattle.attrs.specs.Sets.{Slot, absent, is, Set, Env, keys, bare, at, lay, nonNull, asSet}
+use Rattle.sets.specs.Sets.{Slot, absent, is, Set, Env, keys, bare, at, lay, nonNull, asSet}
 use Rattle.rules.specs.Sheet.{What, text, embed, mark, Item}
 use Rattle.rules.specs.Reading.{Seen, Glyph, thing, unitsOf, glyphs, Cell, paint, layCell, cells, setKey, shown, Op, insert, delete, retain, read}
 use Rattle.rules.specs.Event.{Run, idle, inserting, deleting, retaining, Asm, addOp, growInsert, growDelete, growRetain, Change, stays, becomes, change, markStep, step, changed, pending, told, passed, gather, ahead, finish, fresh, event}

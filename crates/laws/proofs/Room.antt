@@ -6,7 +6,7 @@ use mathlib.Core.List.{List, [], _∷_, map}
 use native.Mathlib.Omega.{arith}
 use lib.Dec.{leb}
 use lib.ListN.{length}
-use Rattle.attrs.specs.Sets.{Slot, absent, is, Set, Env, none, keys, opened, former, completed}
+use Rattle.sets.specs.Sets.{Slot, absent, is, Set, Env, none, keys, opened, former, completed}
 use Rattle.rules.specs.Sheet.{What, Item, dead, kill, width, isMark}
 use Rattle.rules.specs.Places.{stay, over, Move, after, andThen, split, uses, place, agrees, settle, markFor, marks, putMarks, forget, close}
 use Rattle.rules.specs.Edits.{settled, closing, putClose, insertWith, keyIn, remember, walksOn, formatWalk, walking, format, killUnits}

@@ -8,7 +8,7 @@ use mathlib.Core.Logic.{_↔_}
 use native.Mathlib.Omega.{arith}
 use lib.Dec.{eqb}
 use borrow.Author.Tests.{eqb-true, eqb-false}
-use Rattle.attrs.specs.Sets.{Env, none, keys, sameForce}
+use Rattle.sets.specs.Sets.{Env, none, keys, sameForce}
 use Rattle.rules.specs.Sheet.{What, text, embed, mark, Item, dead}
 use Rattle.rules.specs.Reading.{live, Glyph, thing, unitsOf, Cell, paint, cells}
 use Rattle.rules.specs.Runs.{Chunk, words, object, Run, pack, runsFrom, runs, isText, glyphsOf, mergeable, merged, ahead, joined, keysOf, runKeys}

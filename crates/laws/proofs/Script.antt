@@ -5,7 +5,7 @@ use mathlib.Core.Bool.{Bool, true, false, cond}
 use mathlib.Core.List.{List, [], _∷_, _++_, append-assoc, append-nil}
 use native.Mathlib.Omega.{arith}
 use lib.ListN.{length, replicate, length-append, replicate-append-replicate}
-use Rattle.attrs.specs.Sets.{Set, Env, keys, bare}
+use Rattle.sets.specs.Sets.{Set, Env, keys, bare}
 use Rattle.rules.specs.Sheet.{What, text, embed, mark, Item, isMark}
 use Rattle.rules.specs.Reading.{Seen, Glyph, thing, unitsOf, Op, insert, delete, retain}
 use Rattle.rules.specs.Event.{Run, idle, inserting, deleting, retaining, Asm, addOp, Step, goes, starts, growInsert, growDelete, growRetain, Change, breaks, markStep, changeBy, step, told, passed, gather, isPlain, ahead, finish, fresh, event, Act, keep, drop, give, giving, script, fate, fates, carriers}

@@ -8,7 +8,7 @@ use native.Mathlib.Omega.{arith}
 use lib.ListN.{length, length-append, length-map, length-take, length-drop, take, drop, take-append-drop}
 use borrow.Author.Tests.{ltb-true, ltb-false, lt-ltb}
 use Rattle.units.specs.Surrogates.{splitsPair}
-use Rattle.attrs.specs.Sets.{Set, none, keys, lay}
+use Rattle.sets.specs.Sets.{Set, none, keys, lay}
 use Rattle.rules.specs.Sheet.{What, text, embed, Item, begin, width}
 use Rattle.rules.specs.Reading.{live, force, passKey, thing, unitsOf, glyphs, Cell, paint, shown, cells, layCell, seenGlyphs, visible, Op, insert, delete, retain, read}
 use Rattle.rules.specs.Places.{At, whole, stay, andThen, place}

@@ -6,7 +6,7 @@ use mathlib.Core.List.{List, [], _∷_}
 use native.Mathlib.Omega.{arith}
 use lib.Dec.{eqb, ltb}
 use borrow.Author.Tests.{eqb-true, eqb-false, ltb-true, ltb-false}
-use Rattle.attrs.specs.Sets.{keys}
+use Rattle.sets.specs.Sets.{keys}
 use Rattle.rules.specs.Sheet.{What, text, embed, mark, Item}
 use Rattle.rules.specs.Sound.{Fits, AllFit, held, occurs, below, SoundList}
 use Rattle.rules.specs.Rulings.{Byte}

@@ -8,7 +8,7 @@ use native.Mathlib.Omega.{arith}
 use lib.Dec.{eqb, leb}
 use lib.ListN.{length}
 use borrow.Author.Tests.{leb-true, leb-false}
-use Rattle.attrs.specs.Sets.{Slot, absent, is, isAbsent, Set, Env, empty, keys, differs, opened, former, completed, nullFor}
+use Rattle.sets.specs.Sets.{Slot, absent, is, isAbsent, Set, Env, empty, keys, differs, opened, former, completed, nullFor}
 use Rattle.rules.specs.Sheet.{What, text, embed, mark, Item, dead, new}
 use Rattle.rules.specs.Reading.{live, Glyph, glyphs, seenGlyphs, force, passKey}
 use Rattle.rules.specs.Places.{At, whole, stay, over, Move, after, andThen, split, uses, place, agrees, settle, markFor, marks, putMarks, forget, close}

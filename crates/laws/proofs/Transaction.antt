@@ -6,7 +6,7 @@ use mathlib.Core.Path.{_≡_, refl, sym, ap, _∙_, subst}
 use mathlib.Core.List.{List, [], _∷_}
 use native.Mathlib.Omega.{arith}
 use lib.ListN.{length}
-use Rattle.attrs.specs.Sets.{keys}
+use Rattle.sets.specs.Sets.{keys}
 use Rattle.rules.specs.Sheet.{text, embed, Item, begin}
 use Rattle.rules.specs.Reading.{Seen, live, before, cells, force, passKey, seenGlyphs, read}
 use Rattle.rules.specs.Places.{whole}

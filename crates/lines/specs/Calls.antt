@@ -5,7 +5,7 @@ use mathlib.Core.List.{List, []}
 use Prim.Native.Nat.{ℕ, _+_, _≤_}
 use lib.Dec.{eqb}
 use lib.ListN.{length, getD}
-use Rattle.attrs.specs.Sets.{empty}
+use Rattle.sets.specs.Sets.{empty}
 use Rattle.attrs.specs.Packed.{packed}
 use Rattle.words.specs.Words.{wordAt}
 use Rattle.words.specs.Numbers.{numberOf}

@@ -5,7 +5,7 @@ use mathlib.Core.List.{List, [], _∷_}
 use Prim.Native.Nat.{ℕ, zero, suc, _+_, _-_, _≤_}
 use lib.Dec.{eqb, ltb}
 use lib.ListN.{length, getD, take, drop, set}
-use Rattle.attrs.specs.Sets.{empty}
+use Rattle.sets.specs.Sets.{empty}
 use Rattle.attrs.specs.Packed.{packed, withAt}
 use Rattle.words.specs.Words.{wordAt}
 use Rattle.words.specs.declared.words.Word.{Word as Found}

@@ -7,7 +7,7 @@ use mathlib.Core.List.{List}
 use borrow.Author.Tests.{ne-eqb}
 use lib.ListN.{getD, take}
 use Rattle.attrs.specs.declared.Attrs.{Attrs}
-use Rattle.attrs.specs.Sets.{Set, none, opened, former, completed}
+use Rattle.sets.specs.Sets.{Set, none, opened, former, completed}
 use Rattle.attrs.specs.Packed.{says, envOf, packed, onto}
 use Rattle.attrs.proofs.Force.{env-packed, says-opened, says-former, says-unset}
 use Rattle.rules.specs.Reading.{live, setKey, force}

@@ -7,10 +7,10 @@ use mathlib.Core.List.{List, [], _∷_}
 use lib.Count.{trailingZeros}
 use lib.ListN.{length}
 use Rattle.attrs.specs.declared.Attrs.{Attrs}
-use Rattle.attrs.specs.Sets.{is, Set, Env, none, keys}
-use Rattle.attrs.specs.Bits.{keysOf, Rest}
+use Rattle.sets.specs.Sets.{is, Set, Env, none, keys}
+use Rattle.sets.specs.Bits.{keysOf, Rest}
 use Rattle.attrs.specs.Packed.{says, Got}
-use Rattle.attrs.proofs.Keys.{each, keys-none, keys-le}
+use Rattle.sets.proofs.Keys.{each, keys-none, keys-le}
 use Rattle.attrs.proofs.Slots.{each-keys, key-says, Part, part-all, Turn, turn}
 use Rattle.rules.specs.Sheet.{Item, mark, new}
 use Rattle.rules.specs.Places.{after, put, markFor, marks}

@@ -3,7 +3,7 @@ use Prim.Native.Nat.{ℕ, _+_, _≤_}
 use native.Mathlib.Omega.{arith}
 use mathlib.Core.Path.{_≡_, ap}
 use mathlib.Core.List.{List}
-use Rattle.attrs.specs.Sets.{Env, none}
+use Rattle.sets.specs.Sets.{Env, none}
 use Rattle.rules.specs.Sheet.{Item}
 use Rattle.rules.specs.Places.{At, Move, after}
 use Rattle.layout.specs.declared.head.Head.{Head}

@@ -3,7 +3,7 @@ use Prim.Native.Nat.{ℕ, _/_}
 use mathlib.Core.Path.{_≡_, refl, ap}
 use mathlib.Core.Bool.{true, false, not, _||_, false≢true, true≢false, cond}
 use lib.Dec.{eqb}
-use Rattle.attrs.specs.Sets.{Slot, absent, is, Set, isAbsent, lay, slotIs}
+use Rattle.sets.specs.Sets.{Slot, absent, is, Set, isAbsent, lay, slotIs}
 use Rattle.rules.specs.Places.{agrees, forget}
 use Rattle.layout.specs.declared.word.Item.{Item}
 use Rattle.layout.specs.Word.{whatOf, unpackOf}

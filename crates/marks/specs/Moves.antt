@@ -2,7 +2,7 @@
 use Prim.Native.Nat.{ℕ}
 use mathlib.Core.Bool.{Bool, cond, _||_}
 use mathlib.Core.List.{List}
-use Rattle.attrs.specs.Sets.{Set, opened}
+use Rattle.sets.specs.Sets.{Set, opened}
 use Rattle.rules.specs.Sheet.{Item, dead}
 use Rattle.rules.specs.Places.{Move, settle, agrees, marks, put, putMarks, forget}
 

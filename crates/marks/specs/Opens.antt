@@ -3,7 +3,7 @@ use Prim.Native.Nat.{ℕ}
 use mathlib.Core.Path.{_≡_}
 use mathlib.Core.List.{List}
 use Rattle.attrs.specs.declared.Attrs.{Attrs}
-use Rattle.attrs.specs.Sets.{Set, none, former}
+use Rattle.sets.specs.Sets.{Set, none, former}
 use Rattle.attrs.specs.Packed.{says}
 use Rattle.rules.specs.Places.{after}
 use Rattle.layout.specs.declared.head.Head.{Head}

@@ -12,10 +12,10 @@ use arena::Place;
 use arena::forward;
 use arena::writes::put;
 use attrs::Attrs;
-use attrs::rest;
 use layout::head::Head;
 use layout::word::Content;
 use layout::word::unpack;
+use sets::rest;
 
 // A deleted item, or a mark that the set agrees with.
 fn passes(w: u64, attrs: Attrs) -> bool

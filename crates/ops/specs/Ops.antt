@@ -5,7 +5,7 @@ use mathlib.Core.List.{List, [], _∷_, map}
 use lib.Dec.{ltb}
 use lib.ListN.{take, drop, set, replicate}
 use Rattle.attrs.specs.declared.Attrs.{Attrs}
-use Rattle.attrs.specs.Sets.{Set, empty}
+use Rattle.sets.specs.Sets.{Set, empty}
 use Rattle.attrs.specs.Packed.{says, packed}
 use Rattle.rules.specs.Calls.{Body, words, object}
 use Rattle.rules.specs.Reading as rules

@@ -7,7 +7,7 @@ use mathlib.Core.List.{List, [], _∷_}
 use lib.Dec.{leb, ltb}
 use lib.ListN.{getD}
 use borrow.Author.Tests.{le-leb, lt-leb, lt-ltb}
-use Rattle.attrs.specs.Sets.{Env}
+use Rattle.sets.specs.Sets.{Env}
 use Rattle.rules.specs.Sheet.{What, text, embed, mark, Item, dead, like, kill, width, isMark}
 use Rattle.rules.specs.Places.{At, Move, stay, over, after, leftHalf, rightHalf, uses}
 use Rattle.rules.specs.Edits.{killUnits}

@@ -3,7 +3,7 @@ use Prim.Native.Nat.{ℕ, suc, _/_, _<_, _≤_}
 use mathlib.Core.Path.{_≡_, refl, ap}
 use mathlib.Core.Bool.{true, false, cond, not, _&&_}
 use mathlib.Core.List.{List, [], _∷_}
-use Rattle.attrs.specs.Sets.{Env}
+use Rattle.sets.specs.Sets.{Env}
 use Rattle.rules.specs.Sheet.{Item, isMark}
 use Rattle.rules.specs.Places.{Move}
 use Rattle.rules.specs.Edits.{idle}

@@ -4,7 +4,7 @@ use mathlib.Core.Path.{_≡_, refl, sym, ap, _∙_}
 use mathlib.Core.Bool.{true, false}
 use mathlib.Core.List.{List}
 use Rattle.attrs.specs.declared.Attrs.{Attrs}
-use Rattle.attrs.specs.Sets.{Env, none, keys, bare, isNone, asSet}
+use Rattle.sets.specs.Sets.{Env, none, keys, bare, isNone, asSet}
 use Rattle.attrs.specs.Packed.{says}
 use Rattle.attrs.proofs.Tests.{bare-packed, bare-force}
 use Rattle.rules.specs.Sheet.{Item}

@@ -7,7 +7,7 @@ use mathlib.Core.List.{List, [], _∷_, _++_, map, append-assoc, append-nil}
 use lib.Dec.{leb}
 use lib.ListN.{length, take, drop, length-append}
 use lib.Seq.{take-at, drop-at, take-add, drop-drop}
-use Rattle.attrs.specs.Sets.{Env, none}
+use Rattle.sets.specs.Sets.{Env, none}
 use Rattle.attrs.specs.Packed.{envOf}
 use Rattle.rules.specs.Sheet.{Item, dead, kill, width, isMark}
 use Rattle.rules.specs.Places.{At, whole, over, after, andThen, split}

@@ -3,7 +3,7 @@ use Prim.Native.Nat.{ℕ}
 use mathlib.Core.Bool.{Bool, not, _&&_}
 use mathlib.Core.List.{_++_, map}
 use lib.ListN.{take, drop}
-use Rattle.attrs.specs.Sets.{Env}
+use Rattle.sets.specs.Sets.{Env}
 use Rattle.rules.specs.Sheet.{Item, dead}
 use Rattle.rules.specs.Places.{Move, stay}
 use Rattle.rules.specs.Edits.{killUnits, toEnd, idle, tidyItem, tidy}

@@ -6,7 +6,7 @@ use mathlib.Core.List.{List, [], _∷_, _++_, map}
 use lib.Dec.{eqb, leb, ltb}
 use lib.ListN.{length, getD, take, drop}
 use Rattle.units.specs.Surrogates.{paired, splitsPair}
-use Rattle.attrs.specs.Sets.{Set}
+use Rattle.sets.specs.Sets.{Set}
 use Rattle.rules.specs.Sheet.{What, text, embed, mark, Flags, Item, dead, begin}
 use Rattle.rules.specs.Reading.{Glyph, unit, thing, seenGlyphs, Op, insert, delete, retain}
 use Rattle.rules.specs.Places.{At, whole, stay, Move}

@@ -4,7 +4,7 @@ use mathlib.Core.Bool.{Bool, true, false, cond, not, _&&_, _||_}
 use mathlib.Core.List.{List, [], _∷_, _++_, map}
 use lib.Dec.{eqb, leb, ltb}
 use lib.ListN.{length}
-use Rattle.attrs.specs.Sets.{absent, is, Set, empty, Env, none, keys, at, isAbsent, bare, isNone, slotIs, opened, former, completed}
+use Rattle.sets.specs.Sets.{absent, is, Set, empty, Env, none, keys, at, isAbsent, bare, isNone, slotIs, opened, former, completed}
 use Rattle.rules.specs.Sheet.{What, text, embed, mark, Flags, Item, dead, like, new, kill, width, isMark}
 use Rattle.rules.specs.Reading.{live, force}
 use Rattle.rules.specs.Places.{At, whole, stay, over, Move, after, andThen, split, place, agrees, settle, putMarks, put, close}

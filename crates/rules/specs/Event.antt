@@ -4,7 +4,7 @@ use mathlib.Core.Bool.{Bool, true, false, cond, not, _&&_, _||_}
 use mathlib.Core.List.{List, [], _∷_, _++_}
 use lib.Dec.{eqb}
 use lib.ListN.{length, replicate}
-use Rattle.attrs.specs.Sets.{Slot, absent, is, Set, empty, Env, none, keys, at, bare, nonNull, asSet}
+use Rattle.sets.specs.Sets.{Slot, absent, is, Set, empty, Env, none, keys, at, bare, nonNull, asSet}
 use Rattle.rules.specs.Sheet.{What, text, embed, mark, Flags, Item, width, isMark}
 use Rattle.rules.specs.Reading.{Seen, passKey, Glyph, unit, thing, glyphs, Op, insert, delete, retain}
 

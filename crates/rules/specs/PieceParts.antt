@@ -2,7 +2,7 @@
 use Prim.Native.Nat.{ℕ, zero, suc}
 use mathlib.Core.Bool.{true, false, cond}
 use mathlib.Core.List.{List, [], _∷_, map}
-use Rattle.attrs.specs.Sets.{Slot, absent, is, Set, empty, Env, keys, at, asSet}
+use Rattle.sets.specs.Sets.{Slot, absent, is, Set, empty, Env, keys, at, asSet}
 use Rattle.rules.specs.Sheet.{What, text, mark, Item, dead, new}
 use Rattle.rules.specs.Reading.{live, before, Cell, cells, Glyph, unit, thing, Op, insert, delete, retain, read}
 use Rattle.rules.specs.Runs.{Run, Chunk, words, object, runKeys, runCount}

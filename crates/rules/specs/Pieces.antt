@@ -1,7 +1,7 @@
 -- The bench pieces, as one list, and one statement over it.
 use mathlib.Core.Path.{_≡_, refl}
 use mathlib.Core.List.{List, [], _∷_, _++_, map}
-use Rattle.attrs.specs.Sets.{empty, keys}
+use Rattle.sets.specs.Sets.{empty, keys}
 use Rattle.rules.specs.Sheet.{text, mark, new, kill}
 use Rattle.rules.specs.Reading.{delete, retain}
 use Rattle.rules.specs.Calls.{freshSheet, insertText, insertTextWith, formatRange, removeRange, applyDelta, beginNow}

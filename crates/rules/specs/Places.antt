@@ -4,7 +4,7 @@ use mathlib.Core.Bool.{Bool, true, false, cond, not, _&&_, _||_}
 use mathlib.Core.List.{List, [], _∷_, _++_}
 use lib.Dec.{eqb, leb}
 use lib.ListN.{length}
-use Rattle.attrs.specs.Sets.{Slot, absent, is, Set, Env, keys, at, slotIs}
+use Rattle.sets.specs.Sets.{Slot, absent, is, Set, Env, keys, at, slotIs}
 use Rattle.rules.specs.Sheet.{What, text, embed, mark, Flags, Item, dead, like, new, width}
 use Rattle.rules.specs.Reading.{live, force}
 

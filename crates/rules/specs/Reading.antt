@@ -4,7 +4,7 @@ use mathlib.Core.Bool.{Bool, true, false, cond, not, _&&_, _||_}
 use mathlib.Core.List.{List, [], _∷_, _++_, map}
 use lib.Dec.{eqb}
 use lib.ListN.{length, take, drop}
-use Rattle.attrs.specs.Sets.{Slot, Set, lay}
+use Rattle.sets.specs.Sets.{Slot, Set, lay}
 use Rattle.rules.specs.Sheet.{What, text, embed, mark, Flags, Item, width}
 
 -- A reading goes by which items it sees, and that by their flags alone.

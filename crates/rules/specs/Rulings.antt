@@ -7,7 +7,7 @@ use mathlib.Core.Logic.{_↔_}
 use lib.Dec.{eqb, ltb}
 use lib.ListN.{length}
 use Rattle.units.specs.Surrogates.{paired, splitsPair}
-use Rattle.attrs.specs.Sets.{is, Set}
+use Rattle.sets.specs.Sets.{is, Set}
 use Rattle.rules.specs.Sheet.{What, text, embed, mark, Item, begin}
 use Rattle.rules.specs.Reading.{Op, insert, delete, retain}
 use Rattle.rules.specs.Places.{At, whole, stay, Move}

@@ -4,7 +4,7 @@ use mathlib.Core.Bool.{Bool, true, false, cond, _&&_}
 use mathlib.Core.List.{List, [], _∷_, _++_}
 use lib.Dec.{eqb}
 use lib.ListN.{length}
-use Rattle.attrs.specs.Sets.{Env, none, keys, sameForce}
+use Rattle.sets.specs.Sets.{Env, none, keys, sameForce}
 use Rattle.rules.specs.Sheet.{text, embed, mark, Item, dead}
 use Rattle.rules.specs.Reading.{live, passKey, Glyph, thing, glyphs}
 

@@ -5,7 +5,7 @@ use mathlib.Core.Bool.{cond}
 use mathlib.Core.List.{List, [], _∷_, _++_, map}
 use lib.Dec.{leb}
 use lib.ListN.{length, getD, take, drop}
-use Rattle.attrs.specs.Sets.{lay}
+use Rattle.sets.specs.Sets.{lay}
 use Rattle.rules.specs.Sheet.{Item}
 use Rattle.rules.specs.Reading.{live, force, Glyph, thing, unitsOf, Cell, paint, cells, layCell, visible, Op, insert, delete, retain, read}
 use Rattle.rules.specs.Delta.{spelt}

@@ -1,7 +1,7 @@
 -- Pieces beyond the bench: one for each turn of a rule that B1 to B14 do not show.
 use mathlib.Core.List.{List, [], _∷_}
 use lib.ListN.{replicate}
-use Rattle.attrs.specs.Sets.{empty}
+use Rattle.sets.specs.Sets.{empty}
 use Rattle.rules.specs.Sheet.{text, embed, mark, new, kill}
 use Rattle.rules.specs.Reading.{insert, delete, retain}
 use Rattle.rules.specs.Calls.{freshSheet, words, object, insertText, insertTextWith, insertEmbed, insertEmbedWith, formatRange, removeRange, applyDelta, beginNow}

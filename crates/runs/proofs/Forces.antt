@@ -7,9 +7,9 @@ use lib.ListN.{length}
 use borrow.Author.Tests.{eqb-true}
 use Rattle.attrs.specs.declared.Attrs.{Attrs}
 use Rattle.attrs.specs.declared.Took.{Took}
-use Rattle.attrs.specs.Sets.{Set, Env, none, empty, keys, nonNull, asSet, sameSets, sameForce, present}
+use Rattle.sets.specs.Sets.{Set, Env, none, empty, keys, nonNull, asSet, sameSets, sameForce, present}
 use Rattle.attrs.specs.Packed.{says, envOf, packed, updateAt}
-use Rattle.attrs.proofs.Keys.{every, every-at}
+use Rattle.sets.proofs.Keys.{every, every-at}
 use Rattle.attrs.proofs.Says.{says-packed, packed-ext}
 use Rattle.attrs.proofs.Slots.{env-past}
 use Rattle.attrs.proofs.Tests.{same-packed, same-force}

@@ -5,7 +5,7 @@ use mathlib.Core.Bool.{Bool, true, false, cond, _&&_, true≢false}
 use mathlib.Core.List.{List, [], _∷_, _++_, append-assoc, append-nil}
 use lib.Dec.{eqb}
 use borrow.Author.Tests.{eqb-true, eq-eqb}
-use Rattle.attrs.specs.Sets.{Env, keys, sameForce}
+use Rattle.sets.specs.Sets.{Env, keys, sameForce}
 use Rattle.rules.specs.Sheet.{What, text, embed, mark, Item, dead}
 use Rattle.rules.specs.Reading.{Glyph, unitsOf}
 use Rattle.rules.specs.Runs.{Chunk, words, object, Run, runsFrom, isText, mergeable, merged, ahead, joined}

@@ -6,7 +6,7 @@ use mathlib.Core.Bool.{Bool, true, false, cond, not, true≢false}
 use mathlib.Core.List.{List, [], _∷_, _++_, append-nil}
 use lib.ListN.{length, length-append}
 use Rattle.attrs.specs.declared.Attrs.{Attrs}
-use Rattle.attrs.specs.Sets.{Env, keys, sameSets, sameForce}
+use Rattle.sets.specs.Sets.{Env, keys, sameSets, sameForce}
 use Rattle.attrs.specs.Packed.{says, envOf}
 use Rattle.rules.specs.Sheet.{What, text, embed, mark, Item}
 use Rattle.rules.specs.Reading.{live, passKey, Glyph, unit, unitsOf, glyphs}

@@ -7,7 +7,7 @@ use mathlib.Core.Bool.{Bool, true, false, cond, not, true≢false}
 use mathlib.Core.List.{List, [], _∷_}
 use lib.ListN.{length, getD}
 use Rattle.attrs.specs.declared.Attrs.{Attrs}
-use Rattle.attrs.specs.Sets.{Env}
+use Rattle.sets.specs.Sets.{Env}
 use Rattle.attrs.specs.Packed.{envOf}
 use Rattle.rules.specs.Sheet.{What, text, embed, mark, width, Item}
 use Rattle.rules.specs.Reading.{live, passKey, visible, Glyph, unit, unitsOf}

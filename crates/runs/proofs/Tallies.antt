@@ -7,7 +7,7 @@ use mathlib.Core.List.{List, [], _∷_}
 use lib.Dec.{leb}
 use lib.ListN.{length, drop}
 use borrow.Author.Tests.{lt-ltb, le-leb, lt-leb, leb-true}
-use Rattle.attrs.specs.Sets.{Env}
+use Rattle.sets.specs.Sets.{Env}
 use Rattle.rules.specs.Runs.{runsFrom}
 use Rattle.layout.specs.declared.head.Head.{Head}
 use Rattle.layout.specs.Chain.{walks, nextAt}

@@ -4,7 +4,7 @@ use mathlib.Core.Path.{_≡_}
 use mathlib.Core.Bool.{Bool, true, false, cond, not, _||_}
 use mathlib.Core.List.{List, [], _∷_}
 use lib.ListN.{length, drop}
-use Rattle.attrs.specs.Sets.{empty, keys, asSet, sameSets, present}
+use Rattle.sets.specs.Sets.{empty, keys, asSet, sameSets, present}
 use Rattle.attrs.specs.Packed.{says, envOf, packed, updateAt}
 use Rattle.attrs.specs.declared.Attrs.{Attrs}
 use Rattle.rules.specs.Sheet.{What, text, embed, mark, width, isMark, Item}

@@ -3,7 +3,7 @@ use Prim.Native.Nat.{ℕ, _+_}
 use mathlib.Core.Bool.{Bool, true, false, not}
 use mathlib.Core.List.{List, [], _∷_}
 use lib.ListN.{length}
-use Rattle.attrs.specs.Sets.{Env, asSet, empty, keys, present}
+use Rattle.sets.specs.Sets.{Env, asSet, empty, keys, present}
 use Rattle.attrs.specs.Packed.{packed}
 use Rattle.rules.specs.Sheet.{Item}
 use Rattle.rules.specs.Runs.{Chunk, words, object, Run as Stretch, runs, runsFrom, isText, joined}

@@ -9,7 +9,7 @@ use lib.ListN.{length, take, drop, length-append}
 use lib.Seq.{paste, take-all, length-take-le}
 use borrow.Author.Tests.{eq-eqb}
 use Rattle.units.specs.Surrogates.{paired, splitsPair}
-use Rattle.attrs.specs.Sets.{Set}
+use Rattle.sets.specs.Sets.{Set}
 use Rattle.rules.specs.Edits.{byIndex}
 use Rattle.rules.specs.Calls.{Sheet}
 use Rattle.rules.specs.Rulings.{Ruling, seen, asIs, ruling}

@@ -9,8 +9,8 @@ use lib.Dec.{eqb, ltb}
 use lib.ListN.{getD, take}
 use borrow.Author.Tests.{eqb-true, eqb-false}
 use Rattle.attrs.specs.declared.Attrs.{Attrs}
-use Rattle.attrs.specs.Sets.{absent, is, Set, keys}
-use Rattle.attrs.specs.Bits.{bit}
+use Rattle.sets.specs.Sets.{absent, is, Set, keys}
+use Rattle.sets.specs.Bits.{bit}
 use Rattle.attrs.specs.Packed.{held, look, seen, says}
 use Rattle.rules.specs.Reading.{live, before, Cell, cells, layCell, visible}
 use Rattle.rules.specs.Calls.{Sheet, Call, formatRange, call, AllPaired}

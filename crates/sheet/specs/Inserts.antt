@@ -2,7 +2,7 @@
 use Prim.Native.Nat.{ℕ}
 use mathlib.Core.Bool.{Bool, true, false}
 use mathlib.Core.List.{List}
-use Rattle.attrs.specs.Sets.{Set}
+use Rattle.sets.specs.Sets.{Set}
 use Rattle.rules.specs.Calls.{Call, insertText, insertTextWith, insertEmbed, insertEmbedWith}
 use Rattle.layout.specs.declared.word.Content.the-variants.{Text, Embed, Mark}
 use Rattle.changes.specs.declared.change.Change.{Change}

@@ -13,10 +13,10 @@ use lib.Seq.{paste, paste-zero, paste-suc, length-paste, take-length, take-at, d
 use Rattle.io.specs.Digits.{digits, glyph, Fewest}
 use lib.Count.{trailingZeros}
 use Rattle.attrs.specs.declared.Attrs.{Attrs}
-use Rattle.attrs.specs.Sets.{keys, those}
-use Rattle.attrs.specs.Bits.{bit, keysOf, Rest}
+use Rattle.sets.specs.Sets.{keys, those}
+use Rattle.sets.specs.Bits.{bit, keysOf, Rest}
 use Rattle.attrs.specs.Packed.{envOf, Got}
-use Rattle.attrs.proofs.Keys.{keys-next}
+use Rattle.sets.proofs.Keys.{keys-next}
 use Rattle.words.specs.Show.{wrote, Wrote, spelled, decimalText, pairText, pairsText, attrsText}
 
 -- ---- texts

@@ -6,7 +6,7 @@ use Prim.Native.Nat.{ℕ, zero, suc, _+_, _/_, _%_, _≤_}
 use lib.Dec.{ltb}
 use lib.ListN.{length, take, drop}
 use Rattle.attrs.specs.declared.Attrs.{Attrs}
-use Rattle.attrs.specs.Bits.{keysOf}
+use Rattle.sets.specs.Bits.{keysOf}
 use Rattle.attrs.specs.Packed.{envOf}
 
 -- The text lies behind the first n bytes, and nothing else is changed.

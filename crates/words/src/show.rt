@@ -1,6 +1,6 @@
 // Bytes written behind those that lie in a lent buffer already.
 use attrs::Attrs;
-use attrs::rest;
+use sets::rest;
 ghost use mathlib.Core.Path.{_≡_};
 ghost use Prim.Native.Nat.{_+_, _<_, _≤_};
 ghost use lib.ListN.{length};

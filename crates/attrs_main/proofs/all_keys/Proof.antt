@@ -5,8 +5,8 @@ use borrow.Author.Needs.{needs}
 use lib.Dec.{eqb}
 use lib.ListN.{length, replicate}
 use Rattle.attrs.specs.declared.Attrs.{Attrs}
-use Rattle.attrs.specs.Sets.{empty, keys, bare, opened, former, sameSets, present}
-use Rattle.attrs.specs.Bits.{bit}
+use Rattle.sets.specs.Sets.{empty, keys, bare, opened, former, sameSets, present}
+use Rattle.sets.specs.Bits.{bit}
 use Rattle.attrs.specs.Packed.{look, says, envOf, make, maskOf, valuesOf, packed}
 use Rattle.attrs_main.specs.Sum.{sumOf}
 use Rattle.attrs_main.proofs.all_keys.Statement.{statement}

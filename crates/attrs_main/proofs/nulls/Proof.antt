@@ -7,8 +7,8 @@ use lib.Dec.{eqb}
 use lib.ListN.{length}
 use Rattle.attrs.specs.declared.Attrs.{Attrs}
 use Rattle.attrs.specs.declared.Took.{Took}
-use Rattle.attrs.specs.Sets.{absent, empty, at, keys, isAbsent, slotIs, completed, sameSets, present}
-use Rattle.attrs.specs.Bits.{bit}
+use Rattle.sets.specs.Sets.{absent, empty, at, keys, isAbsent, slotIs, completed, sameSets, present}
+use Rattle.sets.specs.Bits.{bit}
 use Rattle.attrs.specs.Packed.{look, says, envOf, make, maskOf, valuesOf, packed, onto, withAt, updateAt}
 use Rattle.attrs_main.proofs.nulls.Statement.{statement}
 use Rattle.attrs_main.proofs.nulls.Tie as tie

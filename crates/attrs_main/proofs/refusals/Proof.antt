@@ -5,8 +5,8 @@ use borrow.Author.Needs.{needs}
 use lib.Dec.{eqb, lit≤}
 use Rattle.attrs.specs.declared.Attrs.{Attrs}
 use Rattle.attrs.specs.declared.Took.{Took}
-use Rattle.attrs.specs.Sets.{empty, keys, bare, sameSets}
-use Rattle.attrs.specs.Bits.{bit}
+use Rattle.sets.specs.Sets.{empty, keys, bare, sameSets}
+use Rattle.sets.specs.Bits.{bit}
 use Rattle.attrs.specs.Packed.{look, says, envOf, make, maskOf, valuesOf, packed, onto, withAt}
 use Rattle.attrs.proofs.Slots.{env-past}
 use Rattle.attrs_main.proofs.refusals.Statement.{statement}

@@ -4,9 +4,9 @@ use Prim.Native.Nat.{_+_, _*_, _≤_}
 use native.Mathlib.Omega.{arith}
 use borrow.Author.Needs.{needs}
 use lib.ListN.{length}
-use Rattle.attrs.specs.Bits.{keysOf}
+use Rattle.sets.specs.Bits.{keysOf}
 use Rattle.attrs.specs.Packed.{envOf}
-use Rattle.attrs.proofs.Keys.{keys-none, keys-le, first-nothing}
+use Rattle.sets.proofs.Keys.{keys-none, keys-le, first-nothing}
 use Rattle.attrs.proofs.Slots.{Part, part-all, Turn, turn-lowest, present-keys}
 use Rattle.attrs_main.specs.Sum.{sumOf}
 use Rattle.attrs_main.proofs.total.Statement.{statement}

@@ -3,7 +3,7 @@ use mathlib.Core.Path.{sym, ap, _∙_}
 use native.Mathlib.Omega.{arith}
 use borrow.Author.Needs.{needs}
 use lib.Count.{trailingZeros}
-use Rattle.attrs.specs.Sets.{is, empty}
+use Rattle.sets.specs.Sets.{is, empty}
 use Rattle.attrs.specs.Packed.{envOf, packed, says, changed}
 use Rattle.attrs.proofs.Says.{whole-packed, onto-packed}
 use Rattle.attrs.proofs.Slots.{Turn, turn}

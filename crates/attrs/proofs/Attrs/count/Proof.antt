@@ -2,7 +2,7 @@
 use mathlib.Core.Path.{sym, ap, _∙_}
 use borrow.Author.Needs.{needs}
 use lib.ListN.{length}
-use Rattle.attrs.proofs.Keys.{count-keys}
+use Rattle.sets.proofs.Keys.{count-keys}
 use Rattle.attrs.proofs.Slots.{present-keys}
 use Rattle.attrs.proofs.Attrs.count.Statement.{statement}
 use Rattle.attrs.proofs.Attrs.count.Tie as tie

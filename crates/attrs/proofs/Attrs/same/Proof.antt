@@ -3,7 +3,7 @@ use mathlib.Core.Path.{ap, _∙_}
 use borrow.Author.Needs.{needs}
 use native.Mathlib.Omega.{arith}
 use Rattle.attrs.specs.declared.Attrs.{Attrs}
-use Rattle.attrs.specs.Sets.{keys, bare}
+use Rattle.sets.specs.Sets.{keys, bare}
 use Rattle.attrs.specs.Packed.{says}
 use Rattle.attrs.proofs.Tests.{other-keys, same-none-differs, bare-packed}
 use Rattle.attrs.proofs.Attrs.same.Statement.{statement}

@@ -2,7 +2,7 @@
 use native.Mathlib.Omega.{arith}
 use borrow.Author.Needs.{needs}
 use lib.Count.{trailingZeros}
-use Rattle.attrs.specs.Sets.{completed}
+use Rattle.sets.specs.Sets.{completed}
 use Rattle.attrs.specs.Packed.{envOf, says}
 use Rattle.attrs.proofs.Slots.{env-clear, Turn, turn}
 use Rattle.attrs.proofs.Changes.{completed-none, completed-keeps, completed-puts}

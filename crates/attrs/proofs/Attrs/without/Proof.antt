@@ -3,8 +3,8 @@ use mathlib.Core.Path.{_≡_, sym, _∙_}
 use Prim.Native.Nat.{_<_}
 use native.Mathlib.Omega.{arith}
 use borrow.Author.Tests.{not-true, not-false}
-use Rattle.attrs.specs.Bits.{bit}
-use Rattle.attrs.proofs.Bits.{bit-le}
+use Rattle.sets.specs.Bits.{bit}
+use Rattle.sets.proofs.Bits.{bit-le}
 use Rattle.attrs.proofs.Stores.{put-gone, none-gone, there}
 use borrow.Author.Needs.{needs}
 use Rattle.attrs.proofs.Attrs.without.Statement.{statement}

@@ -1,8 +1,8 @@
 -- `attrs::lowest` meets its contract.
 use borrow.Author.Needs.{needs}
-use Rattle.attrs.proofs.Keys.{keys-none, keys-next}
-use Rattle.attrs.proofs.lowest.Statement.{statement}
-use Rattle.attrs.proofs.lowest.Tie as tie
+use Rattle.sets.proofs.Keys.{keys-none, keys-next}
+use Rattle.sets.proofs.lowest.Statement.{statement}
+use Rattle.sets.proofs.lowest.Tie as tie
 
 returns : tie.Need-returns
 returns c = rw (c .if1 .taken, keys-none)

@@ -4,8 +4,8 @@ use borrow.Author.Needs.{needs}
 use native.Mathlib.Nat.{one-mul}
 use lib.Dec.{lit<}
 use lib.Pow.{shl-exact}
-use Rattle.attrs.proofs.bit_of.Statement.{statement}
-use Rattle.attrs.proofs.bit_of.Tie as tie
+use Rattle.sets.proofs.bit_of.Statement.{statement}
+use Rattle.sets.proofs.bit_of.Tie as tie
 
 cast-result : tie.Need-cast-result
 cast-result c = search needs

@@ -1,9 +1,9 @@
 -- `attrs::set_bit` meets its contract.
 use native.Mathlib.Omega.{arith}
 use borrow.Author.Needs.{needs}
-use Rattle.attrs.proofs.Bits.{bit-set-lt, set-already, set-now}
-use Rattle.attrs.proofs.set_bit.Statement.{statement}
-use Rattle.attrs.proofs.set_bit.Tie as tie
+use Rattle.sets.proofs.Bits.{bit-set-lt, set-already, set-now}
+use Rattle.sets.proofs.set_bit.Statement.{statement}
+use Rattle.sets.proofs.set_bit.Tie as tie
 
 bit-at-requires : tie.Need-bit-at-requires
 bit-at-requires c κs = search needs

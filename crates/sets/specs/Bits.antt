@@ -4,9 +4,9 @@ use mathlib.Core.List.{List, [], _∷_}
 use Prim.Native.Nat.{ℕ, zero, suc, _-_, _/_, _%_, _^_, _≤_, _<_}
 use lib.Dec.{eqb}
 use lib.Count.{trailingZeros}
-use Rattle.attrs.specs.declared.Key.{Key}
-use Rattle.attrs.specs.declared.Key.the-variants.{At, Nothing}
-use Rattle.attrs.specs.Sets.{keys, those, at}
+use Rattle.sets.specs.declared.Key.{Key}
+use Rattle.sets.specs.declared.Key.the-variants.{At, Nothing}
+use Rattle.sets.specs.Sets.{keys, those, at}
 
 -- The bit of m that stands for the key k.
 unfoldable pub bit : ℕ → ℕ → ℕ

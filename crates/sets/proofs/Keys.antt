@@ -9,9 +9,9 @@ use lib.Count.{ones, ones-step, ones-le, trailingZeros, under}
 use lib.Dec.{eqb}
 use lib.ListN.{length}
 use borrow.Author.Tests.{eqb-true, eqb-false}
-use Rattle.attrs.specs.declared.Key.the-variants.{At, Nothing}
-use Rattle.attrs.specs.Sets.{Slot, absent, is, Set, isAbsent, keys, those, present}
-use Rattle.attrs.specs.Bits.{bit, keysOf, firstKey, restOf, Rest}
+use Rattle.sets.specs.declared.Key.the-variants.{At, Nothing}
+use Rattle.sets.specs.Sets.{Slot, absent, is, Set, isAbsent, keys, those, present}
+use Rattle.sets.specs.Bits.{bit, keysOf, firstKey, restOf, Rest}
 
 -- ---- the sixteen keys, as a count
 

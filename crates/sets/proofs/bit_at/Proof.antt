@@ -1,8 +1,8 @@
 -- `attrs::bit_at` meets its contract.
-use Rattle.attrs.proofs.Bits.{bit-is}
+use Rattle.sets.proofs.Bits.{bit-is}
 use borrow.Author.Needs.{needs}
-use Rattle.attrs.proofs.bit_at.Statement.{statement}
-use Rattle.attrs.proofs.bit_at.Tie as tie
+use Rattle.sets.proofs.bit_at.Statement.{statement}
+use Rattle.sets.proofs.bit_at.Tie as tie
 
 cast-result : tie.Need-cast-result
 cast-result c = search needs

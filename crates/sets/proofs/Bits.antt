@@ -9,8 +9,8 @@ use lib.Count.{trailingZeros, under}
 use lib.Dec.{eqb}
 use mathlib.Core.Bool.{Bool, true, false, cond}
 use borrow.Author.Tests.{eqb-true, eqb-false, eq-eqb, ne-eqb}
-use Rattle.attrs.specs.Sets.{at}
-use Rattle.attrs.specs.Bits.{bit, restOf, Rest, BitIs, BitSet}
+use Rattle.sets.specs.Sets.{at}
+use Rattle.sets.specs.Bits.{bit, restOf, Rest, BitIs, BitSet}
 
 -- how the code computes it: (m >> k) % 2
 pub bit-shift : (m k : ℕ) → m / 2 ^ k % 2 ≡ bit m k

@@ -4,9 +4,9 @@ use Prim.Native.Nat.{ℕ, _-_}
 use native.Mathlib.Omega.{arith}
 use borrow.Author.Needs.{needs}
 use lib.Count.{trailingZeros}
-use Rattle.attrs.proofs.Bits.{Low, low, rest-of, rest-none}
-use Rattle.attrs.proofs.rest.Statement.{statement}
-use Rattle.attrs.proofs.rest.Tie as tie
+use Rattle.sets.proofs.Bits.{Low, low, rest-of, rest-none}
+use Rattle.sets.proofs.rest.Statement.{statement}
+use Rattle.sets.proofs.rest.Tie as tie
 
 returns : tie.Need-returns
 returns c = rest-none _ (c .if1 .taken)
