@@ -7,16 +7,16 @@ use entries::integers::bits_of;
 use entries::integers::integer_of;
 use lines::asks::Entry;
 use lines::asks::read_entry;
+use lookup::Shown;
+use lookup::name_bytes;
+use lookup::string_bytes;
+use lookup::value_at;
 use table::Asked;
-use table::Shown;
 use table::TableHead;
 use table::ask_bool;
 use table::ask_int;
 use table::ask_name;
 use table::ask_string;
-use table::name_bytes;
-use table::string_bytes;
-use table::value_at;
 
 fn answered(a: Asked, what: &[u8]) -> TableHead {
     if a.refusal != 0 {

@@ -16,8 +16,8 @@ use Rattle.ops.specs.declared.delta.DeltaOp.{DeltaOp}
 use Rattle.encoding.specs.Words.{wordsOf, allWords}
 use Rattle.events.specs.declared.event.EventAnswer.{EventAnswer}
 use Rattle.events.specs.Given.{atFront}
-use Rattle.table.specs.declared.Shown.{Shown}
-use Rattle.table.specs.declared.Shown.the-variants.{Nothing, Bool as IsBool, Int as IsInt, String as IsString}
+use Rattle.lookup.specs.declared.Shown.{Shown}
+use Rattle.lookup.specs.declared.Shown.the-variants.{Nothing, Bool as IsBool, Int as IsInt, String as IsString}
 
 abbrev pub lengthIn : ℕ → ℕ → Length
 lengthIn r n = record { refusal = r; len = n }

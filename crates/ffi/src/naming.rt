@@ -5,13 +5,13 @@ ghost use Rattle.table.specs.Sound.{freshHead, soundOf};
 ghost use Rattle.table.specs.Ask.{askName, askValue, Gives};
 ghost use Prim.Native.Nat.{_≤_};
 ghost use lib.ListN.{length};
-ghost use Rattle.table.specs.Show.{shownOf, nameOf, stringOf};
+ghost use Rattle.lookup.specs.Show.{shownOf, nameOf, stringOf};
 ghost use Rattle.events.specs.Given.{atFront};
 ghost use Rattle.ffi.specs.Heads.{tableHeadOf, askedIn};
 ghost use Rattle.ffi.specs.Answers.{countIn, kindIn, numberIn, ShownIn};
 use crate::heads::table_head_of;
+use lookup::Shown;
 use table::Asked;
-use table::Shown;
 use table::TableHead;
 
 #[no_mangle]
@@ -128,7 +128,7 @@ pub extern "C" fn indovalump_name(
     ensures { λ r. ⌜ ShownIn (nameOf (tableHeadOf (now (head .entry))) (now (table .entry)) n) (now (out .entry)) (now (out .exit)) (countIn r (now (count .exit))) ⌝ }
 {
     let h = table_head_of(head);
-    shown(table::name_bytes(h, table, n), out, count)
+    shown(lookup::name_bytes(h, table, n), out, count)
 }
 
 // The bytes of a string value: none for a number that is not given out, and for a value that is no string.
@@ -143,7 +143,7 @@ pub extern "C" fn indovalump_string(
     ensures { λ r. ⌜ ShownIn (stringOf (tableHeadOf (now (head .entry))) (now (table .entry)) v) (now (out .entry)) (now (out .exit)) (countIn r (now (count .exit))) ⌝ }
 {
     let h = table_head_of(head);
-    shown(table::string_bytes(h, table, v), out, count)
+    shown(lookup::string_bytes(h, table, v), out, count)
 }
 
 // The kind of a value: 1 for a bool, 2 for an integer, 3 for a string, 0 for a number that is not given out. `number` is the integer,
@@ -153,7 +153,7 @@ pub extern "C" fn indovalump_value(head: &[u32; 2], table: &[u8], v: u32, number
     ensures { λ r. ⌜ (r ≡ kindIn (shownOf (tableHeadOf (now (head .entry))) (now (table .entry)) v)) × (now (number .exit) ≡ numberIn (shownOf (tableHeadOf (now (head .entry))) (now (table .entry)) v)) ⌝ }
 {
     let h = table_head_of(head);
-    let value = table::value_at(h, table, v);
+    let value = lookup::value_at(h, table, v);
     match value {
         Shown::Nothing => {
             *number = 0;

@@ -2,5 +2,3 @@ pub mod Tables
 pub mod Asks
 pub mod Grown
 pub mod Model
-pub mod Given
-pub mod Values

@@ -1,4 +1,3 @@
 pub mod Value
 pub mod Sound
 pub mod Ask
-pub mod Show

@@ -23,15 +23,3 @@ unfoldable pub contentOf : Value → List ℕ
 contentOf (bool b) = cond b 1 0 ∷ []
 contentOf (int z) = lowBytes 8 (ofZ w64 z)
 contentOf (string c) = c
-
--- What an entry of a kind stands for.
-unfoldable pub valueOf : ℕ → List ℕ → Value
-valueOf k c =
-    cond (eqb k 1) (bool (eqb (numberOf c) 1))
-    (cond (eqb k 2) (int (toZ w64 (numberOf c))) (string c))
-
--- The bytes of a string.
-unfoldable pub bytesOf : Value → List ℕ
-bytesOf (bool b) = []
-bytesOf (int z) = []
-bytesOf (string c) = c

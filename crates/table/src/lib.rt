@@ -1,9 +1,4 @@
 // Names and values numbered in the order of first asking, in bytes that the caller lends.
-mod show;
-
-pub use show::name_bytes;
-pub use show::string_bytes;
-pub use show::value_at;
 ghost use mathlib.Core.Path.{_≡_};
 ghost use Prim.Native.Nat.{_+_, _<_, _≤_};
 ghost use lib.ListN.{length};
@@ -31,14 +26,6 @@ pub struct Asked {
     pub head: TableHead,
 }
 
-// What a value's number stands for. The bytes of a string are shown by `string_bytes`.
-pub enum Shown {
-    Nothing,
-    Bool(bool),
-    Int(i64),
-    String,
-}
-
 // Where the entries of a kind stand.
 pub(crate) struct Shelf {
     pub from: u32,
@@ -55,9 +42,9 @@ pub(crate) enum Asking {
 
 const NAME: u8 = 0;
 
-const BOOL: u8 = 1;
+pub const BOOL: u8 = 1;
 
-const INT: u8 = 2;
+pub const INT: u8 = 2;
 
 const STRING: u8 = 3;
 

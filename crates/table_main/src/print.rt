@@ -1,7 +1,7 @@
 // Calls whose answers are written as lines of text.
 use entries::integers::bits_of;
+use lookup::Shown;
 use table::Asked;
-use table::Shown;
 use table::TableHead;
 
 fn wide(n: u32) -> u64 {
@@ -46,7 +46,7 @@ pub fn ask_string(h: TableHead, t: &mut [u8], bytes: &[u8]) -> TableHead {
 pub fn value(h: TableHead, t: &[u8], v: u32) {
     io::write_all(1, b"v ");
     io::print_decimal(1, wide(v));
-    let shown = table::value_at(h, t, v);
+    let shown = lookup::value_at(h, t, v);
     match shown {
         Shown::Nothing => {
             io::write_all(1, b" none\n");
@@ -65,7 +65,7 @@ pub fn value(h: TableHead, t: &[u8], v: u32) {
         }
         Shown::String => {
             io::write_all(1, b" \"");
-            io::write_all(1, table::string_bytes(h, t, v));
+            io::write_all(1, lookup::string_bytes(h, t, v));
             io::write_all(1, b"\"\n");
         }
     }
@@ -76,6 +76,6 @@ pub fn name(h: TableHead, t: &[u8], n: u32) {
     io::write_all(1, b"m ");
     io::print_decimal(1, wide(n));
     io::write_all(1, b" \"");
-    io::write_all(1, table::name_bytes(h, t, n));
+    io::write_all(1, lookup::name_bytes(h, t, n));
     io::write_all(1, b"\"\n");
 }

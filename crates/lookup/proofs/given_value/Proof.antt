@@ -2,9 +2,9 @@
 use mathlib.Core.Path.{sym, _∙_}
 use borrow.Author.Tests.{not-true, not-false, eq-eqb, ne-eqb}
 use borrow.Author.Needs.{needs}
-use Rattle.table.specs.Show.{givenValue}
-use Rattle.table.proofs.show.given_value.Statement.{statement}
-use Rattle.table.proofs.show.given_value.Tie as tie
+use Rattle.lookup.specs.Show.{givenValue}
+use Rattle.lookup.proofs.given_value.Statement.{statement}
+use Rattle.lookup.proofs.given_value.Tie as tie
 
 sound-requires : tie.Need-sound-requires
 sound-requires c κs = search needs

@@ -16,12 +16,13 @@ use borrow.Author.Tests.{eqb-true, leb-true, lt-ltb, le-ltb}
 use Rattle.entries.specs.Entry.{lengthAt, kindAt, contentAt, entryAt}
 use Rattle.entries.specs.Number.{lowBytes, numberOf}
 use Rattle.entries.specs.Order.{fits, fitsAt}
 use Rattle.table.specs.declared.TableHead.{TableHead}
-use Rattle.table.specs.Value.{Value, bool, int, string, kindOf, contentOf, valueOf, bytesOf}
-use Rattle.table.specs.Show.{caseOf, givenName, givenValue, valueAt, shownOf, nameOf, stringOf}
+use Rattle.table.specs.Value.{Value, bool, int, string, kindOf, contentOf}
+use Rattle.lookup.specs.Show.{valueOf, bytesOf, caseOf, givenName, givenValue, valueAt, shownOf, nameOf, stringOf}
 use Rattle.entries.proofs.Bits.{bytes-below, low-number}
-use Rattle.table.proofs.Tables.{both, Given, given-value, given-name, fits-at}
+use Rattle.table.proofs.Tables.{both}
+use Rattle.lookup.proofs.Numbers.{Given, given-value, given-name, fits-at}
 use Rattle.table.proofs.Model.{one-number}
 
 -- lent memory holds bytes: its type says so, and soundness does not look at it. Were 256 a byte, 256 0 and 0 1 would be one integer
 abbrev pub Bytes : List ℕ → Type 0

@@ -7,11 +7,10 @@ use mir.Val.{SFits}
 use mir.Facts.{toZ-ofZ}
 use borrow.Author.Tests.{not-true, not-false, eq-eqb, ne-eqb}
 use borrow.Author.Needs.{needs}
-use Rattle.table.specs.Value.{valueOf}
-use Rattle.table.specs.Show.{shownOf, valueAt, caseOf}
-use Rattle.table.proofs.Tables.{given-value, given-short}
-use Rattle.table.proofs.show.value_at.Statement.{statement}
-use Rattle.table.proofs.show.value_at.Tie as tie
+use Rattle.lookup.specs.Show.{valueOf, shownOf, valueAt, caseOf}
+use Rattle.lookup.proofs.Numbers.{given-value, given-short}
+use Rattle.lookup.proofs.value_at.Statement.{statement}
+use Rattle.lookup.proofs.value_at.Tie as tie
 
 given-value-requires : tie.Need-given-value-requires
 given-value-requires c κs = search needs

@@ -3,11 +3,10 @@ use native.Mathlib.Omega.{arith}
 use mathlib.Core.Path.{sym, _∙_}
 use borrow.Author.Tests.{not-true, not-false, eq-eqb, ne-eqb}
 use borrow.Author.Needs.{needs}
-use Rattle.table.specs.Value.{valueOf, bytesOf}
-use Rattle.table.specs.Show.{stringOf, valueAt}
-use Rattle.table.proofs.Tables.{given-value}
-use Rattle.table.proofs.show.string_bytes.Statement.{statement}
-use Rattle.table.proofs.show.string_bytes.Tie as tie
+use Rattle.lookup.specs.Show.{valueOf, bytesOf, stringOf, valueAt}
+use Rattle.lookup.proofs.Numbers.{given-value}
+use Rattle.lookup.proofs.string_bytes.Statement.{statement}
+use Rattle.lookup.proofs.string_bytes.Tie as tie
 
 given-value-requires : tie.Need-given-value-requires
 given-value-requires c κs = search needs

@@ -1,16 +1,23 @@
 // What numbers stand for, read back from the lent bytes.
 ghost use mathlib.Core.Path.{_≡_};
-ghost use Rattle.table.specs.Show.{givenName, givenValue, shownOf, nameOf, stringOf};
-use crate::BOOL;
-use crate::INT;
-use crate::Shown;
-use crate::TableHead;
-use crate::sound;
+ghost use Rattle.lookup.specs.Show.{givenName, givenValue, shownOf, nameOf, stringOf};
 use entries::integers::integer_of;
 use entries::integers::number_of;
 use entries::slots::content;
 use entries::slots::kind_at;
 use entries::slots::wide;
+use table::BOOL;
+use table::INT;
+use table::TableHead;
+use table::sound;
+
+// What a value's number stands for. The bytes of a string are shown by `string_bytes`.
+pub enum Shown {
+    Nothing,
+    Bool(bool),
+    Int(i64),
+    String,
+}
 
 fn given_name(h: TableHead, table: &[u8], n: u32) -> bool
     ensures { λ r. ⌜ r ≡ givenName h (now (table .entry)) n ⌝ }

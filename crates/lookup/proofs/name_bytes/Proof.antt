@@ -3,10 +3,10 @@ use native.Mathlib.Omega.{arith}
 use mathlib.Core.Path.{sym, _∙_}
 use borrow.Author.Tests.{not-true, not-false}
 use borrow.Author.Needs.{needs}
-use Rattle.table.specs.Show.{nameOf}
-use Rattle.table.proofs.Tables.{given-name}
-use Rattle.table.proofs.show.name_bytes.Statement.{statement}
-use Rattle.table.proofs.show.name_bytes.Tie as tie
+use Rattle.lookup.specs.Show.{nameOf}
+use Rattle.lookup.proofs.Numbers.{given-name}
+use Rattle.lookup.proofs.name_bytes.Statement.{statement}
+use Rattle.lookup.proofs.name_bytes.Tie as tie
 
 given-name-requires : tie.Need-given-name-requires
 given-name-requires c κs = search needs

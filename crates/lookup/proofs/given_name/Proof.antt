@@ -2,9 +2,9 @@
 use mathlib.Core.Path.{sym, _∙_}
 use borrow.Author.Tests.{not-true, not-false}
 use borrow.Author.Needs.{needs}
-use Rattle.table.specs.Show.{givenName}
-use Rattle.table.proofs.show.given_name.Statement.{statement}
-use Rattle.table.proofs.show.given_name.Tie as tie
+use Rattle.lookup.specs.Show.{givenName}
+use Rattle.lookup.proofs.given_name.Statement.{statement}
+use Rattle.lookup.proofs.given_name.Tie as tie
 
 sound-requires : tie.Need-sound-requires
 sound-requires c κs = search needs

@@ -3,12 +3,27 @@ use Prim.Native.Nat.{ℕ, _+_}
 use mathlib.Core.Bool.{Bool, false, cond}
 use mathlib.Core.List.{List, []}
 use lib.Dec.{eqb, ltb, leb}
+use mir.Syntax.{w64}
+use mir.Val.{toZ}
 use Rattle.table.specs.declared.TableHead.{TableHead}
-use Rattle.table.specs.declared.Shown.{Shown}
-use Rattle.table.specs.declared.Shown.the-variants.{Nothing, Bool as IsBool, Int as IsInt, String as IsString}
+use Rattle.lookup.specs.declared.Shown.{Shown}
+use Rattle.lookup.specs.declared.Shown.the-variants.{Nothing, Bool as IsBool, Int as IsInt, String as IsString}
 use Rattle.entries.specs.Entry.{kindAt, contentAt}
-use Rattle.table.specs.Value.{Value, bool, int, string, valueOf, bytesOf}
+use Rattle.entries.specs.Number.{numberOf}
+use Rattle.table.specs.Value.{Value, bool, int, string}
 use Rattle.table.specs.Sound.{soundOf}
+
+-- What an entry of a kind stands for.
+unfoldable pub valueOf : ℕ → List ℕ → Value
+valueOf k c =
+    cond (eqb k 1) (bool (eqb (numberOf c) 1))
+    (cond (eqb k 2) (int (toZ w64 (numberOf c))) (string c))
+
+-- The bytes of a string.
+unfoldable pub bytesOf : Value → List ℕ
+bytesOf (bool b) = []
+bytesOf (int z) = []
+bytesOf (string c) = c
 
 -- The case of each value; a string's bytes are shown where they lie.
 unfoldable pub caseOf : Value → Shown

@@ -10,16 +10,16 @@ use mir.Facts.{toZ-ofZ, fits-ofZ}
 use borrow.Author.Tests.{lt-ltb, le-leb, ne-eqb}
 use Rattle.entries.specs.Entry.{kindAt, contentAt, entryAt, entries, seek}
 use Rattle.entries.specs.Number.{numberOf}
 use Rattle.table.specs.declared.TableHead.{TableHead}
-use Rattle.table.specs.Value.{Value, bool, int, string, kindOf, contentOf, valueOf, bytesOf}
+use Rattle.table.specs.Value.{Value, bool, int, string, kindOf, contentOf}
 use Rattle.table.specs.Ask.{nameShelf, valueShelf, shelfOf, askOf, askName, askValue}
-use Rattle.table.specs.Show.{caseOf, givenName, givenValue, valueAt, shownOf, nameOf, stringOf}
+use Rattle.lookup.specs.Show.{valueOf, bytesOf, caseOf, givenName, givenValue, valueAt, shownOf, nameOf, stringOf}
 use Rattle.entries.proofs.Bits.{number-low}
 use Rattle.entries.proofs.Entries.{length-entries}
 use Rattle.entries.proofs.Seeks.{seek-at}
 use Rattle.table.proofs.Tables.{Sound, sound-whole}
 use Rattle.table.proofs.Grown.{Shape, name-shape, value-shape}
 use Rattle.table.proofs.Model.{kindred, ask-sound, ask-placed, entries-at}
 
 -- an integer is one that 64 bits hold
 abbrev pub Whole : Value → Type 0
