@@ -1,11 +1,11 @@
 -- A text cut in two. Assumes nothing.
-use Prim.Native.Nat.{ℕ, suc, _+_, _-_, _/_, _<_, _≤_}
+use Prim.Native.Nat.{ℕ, suc, _+_, _/_, _<_, _≤_}
 use native.Mathlib.Numerals.{add-one}
 use native.Mathlib.Omega.{arith}
 use mathlib.Core.Path.{_≡_, refl, ap, ap₂, subst, subst⁻¹, _∙_}
 use mathlib.Core.List.{List, _∷_, _++_}
 use lib.ListN.{length, getD, set, length-set}
-use Rattle.rules.specs.Sheet.{text, Item, like, width}
+use Rattle.rules.specs.Sheet.{Item, like, width}
 use Rattle.rules.specs.Places.{leftHalf, rightHalf}
 use Rattle.layout.specs.declared.head.Head.{Head}
 use Rattle.layout.specs.declared.word.Content.{Content}

@@ -1,6 +1,6 @@
 // What is written into a working copy: an item put in, a text split, an item deleted.
 ghost use mathlib.Core.Path.{_≡_};
-ghost use Prim.Native.Nat.{_<_, _≤_};
+ghost use Prim.Native.Nat.{_<_};
 ghost use lib.ListN.{length, getD};
 ghost use Rattle.rules.specs.Edits.{putNew};
 ghost use Rattle.layout.specs.Word.{whatOf, unpackOf};

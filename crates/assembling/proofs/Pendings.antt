@@ -1,8 +1,8 @@
 -- What the code reads of a set is what the rules' change of a pending attribute asks for.
-use Prim.Native.Nat.{ℕ, _+_, _≤_}
+use Prim.Native.Nat.{ℕ, _≤_}
 use native.Mathlib.Omega.{arith}
-use mathlib.Core.Path.{_≡_, refl, sym, ap, _∙_}
-use mathlib.Core.Bool.{Bool, true, false, cond, not}
+use mathlib.Core.Path.{_≡_, refl, ap, _∙_}
+use mathlib.Core.Bool.{true, false, not}
 use Rattle.attrs.specs.declared.Attrs.{Attrs}
 use Rattle.sets.specs.Sets.{Slot, absent, is, isAbsent, lay}
 use Rattle.attrs.specs.Packed.{says, envOf}

@@ -1,10 +1,9 @@
 -- What an item does to the assembler, in the code's own types: the rules' steps, with a count where the rules keep a run's glyphs.
-use Prim.Native.Nat.{ℕ, zero, suc, _+_}
+use Prim.Native.Nat.{ℕ, _+_}
 use mathlib.Core.Bool.{Bool, true, false, cond, not, _&&_}
-use mathlib.Core.List.{List, [], _∷_}
 use lib.Dec.{eqb}
 use Rattle.attrs.specs.declared.Attrs.{Attrs}
-use Rattle.sets.specs.Sets.{Slot, absent, is, empty, none, at}
+use Rattle.sets.specs.Sets.{Slot, absent, is, empty, at}
 use Rattle.attrs.specs.Packed.{says, envOf, packed, onto, withAt, updateAt}
 use Rattle.rules.specs.Sheet.{What, text, embed, mark, Flags}
 use Rattle.rules.specs.Reading.{Seen, live, before}
@@ -12,7 +11,7 @@ use Rattle.rules.specs.Event.{Change, stays, becomes, change}
 use Rattle.ops.specs.declared.delta.Inserted.the-variants.{Text, Embed}
 use Rattle.ops.specs.declared.delta.Op.{Op}
 use Rattle.ops.specs.declared.delta.Op.the-variants.{Insert, Delete, Retain}
-use Rattle.encoding.specs.declared.Found.the-variants.{Is, Nothing}
+use Rattle.encoding.specs.declared.Found.the-variants.{Is}
 use Rattle.encoding.specs.declared.MaybeOp.{MaybeOp}
 use Rattle.encoding.specs.Words.{noneFound}
 use Rattle.assembling.specs.declared.runs.Action.{Action}

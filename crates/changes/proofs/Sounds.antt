@@ -1,18 +1,15 @@
 -- What a sound sheet gives those who read it. Assumes nothing.
-use Prim.Native.Nat.{ℕ, _/_, _%_, _<_, _≤_}
+use Prim.Native.Nat.{ℕ, _≤_}
 use native.Mathlib.Omega.{arith}
-use mathlib.Core.Path.{_≡_, refl, sym, ap, subst, _∙_}
-use mathlib.Core.Bool.{Bool, true, cond}
+use mathlib.Core.Path.{_≡_, refl, sym}
+use mathlib.Core.Bool.{true}
 use mathlib.Core.List.{List}
-use lib.Dec.{eqb}
 use lib.ListN.{length, getD, take}
-use Rattle.rules.specs.Sheet.{What}
 use Rattle.layout.specs.declared.head.Head.{Head}
 use Rattle.layout.specs.declared.word.Content.{Content}
 use Rattle.layout.specs.declared.word.Content.the-variants.{Text, Embed, Mark}
-use Rattle.layout.specs.Word.{whatOf, contentFrom, unpackOf, Fitting}
-use Rattle.layout.specs.Chain.{itemFrom}
-use Rattle.layout.specs.Memory.{Sound, whatOk, wordOk, soundOf}
+use Rattle.layout.specs.Word.{whatOf, unpackOf, Fitting}
+use Rattle.layout.specs.Memory.{whatOk, wordOk, soundOf}
 use Rattle.layout.proofs.Words.{fitting-unpack}
 use Rattle.layout.proofs.Soundness.{sound-parts, piece-parts, mark-parts, word-parts}
 use Rattle.layout.proofs.Stored.{range-parts}

@@ -1,11 +1,11 @@
 -- A working copy: a sound sheet loaded, an edit by index carried out there, and its words copied back. Assumes nothing.
-use Prim.Native.Nat.{ℕ, suc, _+_, _<_, _≤_}
+use Prim.Native.Nat.{ℕ, _<_, _≤_}
 use native.Mathlib.Omega.{arith}
-use mathlib.Core.Path.{_≡_, refl, sym, ap, ap₂, subst, subst⁻¹, _∙_}
-use mathlib.Core.Bool.{Bool, true, false, cond}
-use mathlib.Core.List.{List, [], _++_}
-use lib.Dec.{leb, ltb}
-use lib.ListN.{length, getD, take, drop}
+use mathlib.Core.Path.{_≡_, sym, ap, ap₂, subst, subst⁻¹, _∙_}
+use mathlib.Core.Bool.{true}
+use mathlib.Core.List.{List}
+use lib.Dec.{ltb}
+use lib.ListN.{length, getD}
 use borrow.Author.Tests.{le-leb, lt-leb, lt-ltb}
 use Rattle.units.proofs.Halves.{both}
 use Rattle.sets.specs.Sets.{Set, none}
@@ -14,9 +14,9 @@ use Rattle.rules.specs.Places.{At, Move, whole, andThen}
 use Rattle.rules.specs.Edits.{byIndex}
 use Rattle.layout.specs.declared.head.Head.{Head}
 use Rattle.layout.specs.Word.{inRange}
-use Rattle.layout.specs.Chain.{END, chain, headOr}
+use Rattle.layout.specs.Chain.{END, headOr}
 use Rattle.layout.specs.Heads.{grownHead}
-use Rattle.layout.specs.Memory.{listOf, Sound, stored}
+use Rattle.layout.specs.Memory.{listOf, stored}
 use Rattle.layout.proofs.Links.{distinct, head-is, length-chain}
 use Rattle.layout.proofs.Numbers.{Once, once, walk-below}
 use Rattle.layout.proofs.Stored.{each-all, stored-same}

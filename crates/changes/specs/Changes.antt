@@ -1,12 +1,9 @@
 -- What an edit does at the place that its index gives.
-use mathlib.Core.Bool.{Bool, true, false}
-use Prim.Native.Nat.{ℕ}
 use Rattle.sets.specs.Sets.{Set}
 use Rattle.rules.specs.Sheet.{text, embed}
 use Rattle.rules.specs.Places.{Move}
 use Rattle.rules.specs.Edits.{plainText, plainEmbed, insertWith, format, removeHere}
-use Rattle.layout.specs.declared.word.Content.{Content}
-use Rattle.layout.specs.declared.word.Content.the-variants.{Text, Embed, Mark}
+use Rattle.layout.specs.declared.word.Content.the-variants.{Text, Embed}
 use Rattle.layout.specs.Word.{whatOf}
 use Rattle.arena.specs.Places.{InRange}
 use Rattle.changes.specs.declared.change.Change.{Change}

@@ -1,6 +1,5 @@
 // An edit in a working copy, and back.
 ghost use mathlib.Core.Path.{_≡_};
-ghost use Prim.Native.Nat.{_≤_};
 ghost use Rattle.attrs.specs.Packed.{says};
 ghost use Rattle.rules.specs.Edits.{byIndex};
 ghost use Rattle.layout.specs.Memory.{listOf};

@@ -1,18 +1,16 @@
 -- One step of the walk to an index. Assumes nothing.
-use Prim.Native.Nat.{ℕ, zero, suc, _-_, _<_, _≤_, _/_}
+use Prim.Native.Nat.{ℕ, zero, suc, _-_, _<_, _≤_}
 use native.Mathlib.Omega.{arith}
-use mathlib.Core.Path.{_≡_, refl, sym, ap, _∙_}
-use mathlib.Core.Bool.{Bool, true, false, cond}
-use mathlib.Core.List.{List, [], _∷_}
+use mathlib.Core.Path.{_≡_, refl}
+use mathlib.Core.Bool.{false}
+use mathlib.Core.List.{List}
 use lib.ListN.{length, getD}
-use lib.Dec.{ltb}
 use borrow.Author.Tests.{lt-ltb, le-ltb}
 use Rattle.rules.specs.Sheet.{What, text, embed, mark}
-use Rattle.rules.specs.Places.{uses}
 use Rattle.rules.specs.Sound.{AllFit, Fits}
 use Rattle.layout.specs.Word.{whatOf, unpackOf}
 use Rattle.items.specs.Calls.{shownLen}
-use Rattle.layout.specs.Chain.{itemAt, nextAt, chain}
+use Rattle.layout.specs.Chain.{nextAt, chain}
 use Rattle.layout.proofs.Links.{chain-step}
 use Rattle.cuts.specs.Cuts.{cutsPiece, cutAt, Lies}
 

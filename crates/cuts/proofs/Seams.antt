@@ -1,18 +1,18 @@
 -- A sound list shows whole pieces, so an index cuts a pair of what is shown exactly if it cuts one of the piece that it falls into. Assumes nothing.
-use Prim.Native.Nat.{ℕ, zero, suc, _+_, _-_, _<_, _≤_}
+use Prim.Native.Nat.{ℕ, zero, suc, _+_, _-_, _≤_}
 use native.Mathlib.Nat.{sub-zero}
 use native.Mathlib.Omega.{arith}
-use mathlib.Core.Path.{_≡_, refl, sym, ap, ap₂, _∙_}
+use mathlib.Core.Path.{_≡_, refl, sym, ap, _∙_}
 use mathlib.Core.Bool.{Bool, true, false, cond, not}
 use mathlib.Core.List.{List, [], _∷_, _++_, map}
 use lib.Dec.{ltb}
 use lib.ListN.{length, getD, take, drop, length-drop}
 use lib.Seq.{drop-cons, length-take-le}
-use borrow.Author.Tests.{lt-ltb, le-ltb, ltb-true, ltb-false}
+use borrow.Author.Tests.{le-ltb, ltb-true, ltb-false}
 use Rattle.units.specs.Surrogates.{paired, splitsPair}
 use Rattle.units.proofs.Pairing.{splits-end, splits-append, splits-behind}
-use Rattle.rules.specs.Sheet.{What, text, embed, mark, Flags, Item, width}
-use Rattle.rules.specs.Reading.{Glyph, unit, unitsOf, glyphs, live, seenGlyphs}
+use Rattle.rules.specs.Sheet.{What, text, embed, mark, Item, width}
+use Rattle.rules.specs.Reading.{Glyph, unitsOf, glyphs, seenGlyphs}
 use Rattle.rules.specs.Places.{uses}
 use Rattle.rules.specs.Sound.{AllFit, Fits}
 use Rattle.rules.specs.Calls.{unitAt, visibleUnits, PairedWhat, AllPaired}

@@ -6,15 +6,13 @@ use mathlib.Core.Path.{_≡_}
 use lib.ListN.{length, take, drop}
 use lib.Dec.{ltb}
 use Rattle.units.specs.Surrogates.{splitsPair}
-use Rattle.rules.specs.Sheet.{What, text, embed, mark, Item, width}
+use Rattle.rules.specs.Sheet.{What, text, embed, mark, Item}
 use Rattle.rules.specs.Places.{uses}
 use Rattle.rules.specs.Sound.{AllFit}
 use Rattle.rules.specs.Calls.{AllPaired}
-use Rattle.layout.specs.Word.{whatOf}
 use Rattle.layout.specs.Chain.{walks}
 use Rattle.layout.specs.Memory.{listOf}
 use Rattle.layout.specs.declared.head.Head.{Head}
-use Rattle.layout.specs.declared.word.Content.{Content}
 
 -- Does the count n cut a pair of this piece?
 abbrev pub cutsPiece : List ℕ → What → ℕ → Bool

@@ -1,23 +1,20 @@
 -- Rule Format's walk, turn by turn. Assumes nothing.
-use Prim.Native.Nat.{ℕ, zero, suc, _+_, _-_, _/_, _<_, _≤_}
+use Prim.Native.Nat.{ℕ, zero, suc, _+_, _-_, _<_, _≤_}
 use native.Mathlib.Omega.{arith}
-use mathlib.Core.Path.{_≡_, refl, sym, ap, _∙_}
+use mathlib.Core.Path.{_≡_, refl, ap, _∙_}
 use mathlib.Core.Bool.{Bool, true, false, cond, not, _&&_, _||_, false≢true}
 use mathlib.Core.List.{List, [], _∷_}
 use lib.Dec.{eqb, leb, ltb}
 use lib.ListN.{length, length-set}
 use borrow.Author.Tests.{ltb-true, leb-false}
 use Rattle.sets.specs.Sets.{Set, Env, keys, bare}
-use Rattle.rules.specs.Sheet.{What, text, embed, mark, Item, dead, kill, width, isMark}
-use Rattle.rules.specs.Places.{At, Move, over, stay, split, andThen, after, close}
+use Rattle.rules.specs.Sheet.{What, text, embed, mark, Item, dead, kill, width}
+use Rattle.rules.specs.Places.{At, Move, over, split, andThen, close}
 use Rattle.rules.specs.Edits.{keyIn, remember, closing, walking, formatWalk}
-use Rattle.layout.specs.declared.word.Content.{Content}
-use Rattle.layout.specs.declared.word.Content.the-variants.{Mark}
 use Rattle.layout.specs.declared.head.Head.{Head}
-use Rattle.layout.specs.Word.{whatOf, unpackOf}
-use Rattle.layout.specs.Chain.{itemFrom, itemAt}
+use Rattle.layout.specs.Chain.{itemAt}
 use Rattle.arena.specs.declared.Place.{Place}
-use Rattle.arena.specs.Places.{InRange, Neat, Going, Carried, forwardOf, inTurn, ahead, halving}
+use Rattle.arena.specs.Places.{Going, Carried, forwardOf, ahead, halving}
 use Rattle.arena.specs.Writes.{killMem}
 use Rattle.arena.proofs.Carried.{carried-then}
 use Rattle.arena.proofs.Walks.{going-end, going-here, going-ahead, going-kill, going-by}

@@ -1,29 +1,28 @@
 -- The call: what the two walks and the copy leave is what is to be given. And what always fits.
-use Prim.Native.Nat.{ℕ, zero, suc, _+_, _-_, _*_, _≤_, _<_}
+use Prim.Native.Nat.{ℕ, _+_, _-_, _*_, _≤_, _<_}
 use native.Mathlib.Omega.{arith}
 use native.Mathlib.Nat.{zero-add}
-use mathlib.Core.Path.{_≡_, refl, sym, ap, ap₂, subst, _∙_}
-use mathlib.Core.Bool.{Bool, true, false, cond, _&&_}
-use mathlib.Core.List.{List, [], _∷_, _++_}
+use mathlib.Core.Path.{_≡_, sym, ap, ap₂, subst, _∙_}
+use mathlib.Core.Bool.{true, false, cond}
+use mathlib.Core.List.{List, _++_}
 use lib.Dec.{leb}
 use lib.ListN.{length, take, drop}
 use lib.Seq.{sets, sets-eq}
 use borrow.Author.Tests.{le-leb, lt-leb}
 use Rattle.rules.specs.Sound.{AllFit}
 use Rattle.rules.specs.Reading.{before, live}
-use Rattle.rules.specs.Event.{event, finish, fresh, toldUnits}
+use Rattle.rules.specs.Event.{event, fresh, toldUnits}
 use Rattle.laws.proofs.Fits.{event-fits}
 use Rattle.layout.specs.declared.head.Head.{Head}
-use Rattle.layout.specs.Memory.{listOf, soundOf, Sound}
+use Rattle.layout.specs.Memory.{listOf, soundOf}
 use Rattle.layout.proofs.Soundness.{sound-parts}
 use Rattle.layout.proofs.Models.{used-length, model-sound}
 use Rattle.ops.specs.declared.delta.DeltaOp.{DeltaOp}
 use Rattle.encoding.specs.Words.{allWords}
 use Rattle.events.specs.declared.walk.Measure.{Measure}
-use Rattle.assembling.specs.Steps.{wasBy, isBy}
 use Rattle.events.specs.Told.{Ops, deltaOps, encoded, unitsFor, texts, tellAll, begun}
 use Rattle.events.specs.Walks.{Walkable, Walked, gathered, givenBy}
-use Rattle.events.specs.Given.{Given, refused, gives, fitsIn, given, atFront}
+use Rattle.events.specs.Given.{refused, gives, fitsIn, given, atFront}
 use Rattle.events.proofs.Tellings.{kept-all, words-is, finish-take, take-ops, length-ops, length-words}
 use Rattle.events.proofs.Texts.{texts-given, length-texts, finish-units}
 

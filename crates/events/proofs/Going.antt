@@ -24,7 +24,7 @@ use Rattle.assembling.specs.declared.assembler.Passed.{Passed}
 use Rattle.events.specs.declared.telling.Count.{Count}
 use Rattle.events.specs.declared.walk.Measure.{Measure}
 use Rattle.assembling.specs.Steps.{wasBy, isBy, load, insertedBy, actionOp, passBy, freshAsm}
-use Rattle.events.specs.Told.{Ops, deltaOps, tellAll, telling, Telling, begun, opsIn, foundOps, keptBy, wroteBy}
+use Rattle.events.specs.Told.{deltaOps, tellAll, telling, Telling, begun, opsIn, foundOps, keptBy, wroteBy}
 use Rattle.events.specs.Walks.{Walkable, Walked, gathered}
 use Rattle.events.proofs.Tellings.{tell-append, ops-append}
 use Rattle.events.proofs.Turns.{runOf, codeOf, Plain, Steps, told-append, op-told, units-told}

@@ -1,15 +1,15 @@
 -- Laws of telling: in parts, what it keeps, and what it writes.
 use Prim.Native.Nat.{ℕ, zero, suc, _+_, _-_, _*_, _≤_, _<_}
 use native.Mathlib.Omega.{arith}
-use native.Mathlib.Nat.{add-assoc, add-zero}
+use native.Mathlib.Nat.{add-zero}
 use mathlib.Core.Path.{_≡_, refl, sym, ap, _∙_}
 use mathlib.Core.Bool.{Bool, true, false, cond}
-use mathlib.Core.List.{List, [], _∷_, _++_, append-assoc}
-use lib.Dec.{eqb, ltb}
-use lib.ListN.{length, take, set, length-append}
+use mathlib.Core.List.{List, [], _∷_, _++_}
+use lib.Dec.{ltb}
+use lib.ListN.{length, take, set}
 use lib.Seq.{sets}
-use borrow.Author.Tests.{lt-ltb, le-ltb, ltb-true, ltb-false}
-use Rattle.sets.specs.Sets.{Set, keys, bare, within}
+use borrow.Author.Tests.{ltb-true, ltb-false}
+use Rattle.sets.specs.Sets.{Set, keys, bare}
 use Rattle.attrs.specs.Packed.{says, packed}
 use Rattle.attrs.proofs.Says.{says-packed}
 use Rattle.rules.specs.Reading.{Glyph, Op, insert, delete, retain}

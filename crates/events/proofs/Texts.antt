@@ -1,17 +1,15 @@
 -- The texts of an event are the units that its items give anew, one after the other. From the script theorem.
 use Prim.Native.Nat.{ℕ, zero, suc, _+_, _-_, _≤_, _<_}
 use native.Mathlib.Omega.{arith}
-use native.Mathlib.Nat.{add-zero}
 use mathlib.Core.Path.{_≡_, refl, sym, ap, _∙_}
 use mathlib.Core.Bool.{Bool, true, false, cond}
-use mathlib.Core.List.{List, [], _∷_, _++_, append-assoc, append-nil}
+use mathlib.Core.List.{List, [], _∷_, _++_, append-nil}
 use lib.ListN.{length, getD, replicate, set, length-append}
 use lib.Seq.{sets, length-sets}
 use Rattle.rules.specs.Sheet.{What, text, embed, mark, Item, width}
-use Rattle.rules.specs.Reading.{Seen, Glyph, unit, thing, unitsOf, glyphs, Op, insert, delete, retain}
+use Rattle.rules.specs.Reading.{Glyph, unit, thing, unitsOf, Op, insert, delete, retain}
 use Rattle.rules.specs.Sound.{Fits, AllFit}
 use Rattle.rules.specs.Event.{event, finish, ahead, isPlain, Act, keep, drop, give, giving, script, fate, fates, inUnits, toldUnits}
-use Rattle.rules.specs.Scripts.{UpToKeeps}
 use Rattle.laws.proofs.Script.{event-says}
 use Rattle.layout.specs.declared.head.Head.{Head}
 use Rattle.layout.specs.Chain.{itemAt, nextAt, chain, walks}
@@ -19,7 +17,7 @@ use Rattle.layout.specs.Memory.{listOf}
 use Rattle.layout.proofs.Links.{chain-step, walks-next}
 use Rattle.events.specs.declared.fill.Piece.{Piece}
 use Rattle.assembling.specs.Steps.{wasBy, isBy}
-use Rattle.events.specs.Told.{Ops, unitsIn, unitsFor, texts}
+use Rattle.events.specs.Told.{Ops, unitsFor, texts}
 use Rattle.events.specs.Walks.{Walkable, pieceBy, givenBy}
 use Rattle.events.proofs.Tellings.{sets-append}
 use Rattle.events.proofs.Turns.{in-units}

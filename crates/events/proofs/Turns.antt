@@ -7,9 +7,8 @@ use mathlib.Core.Bool.{Bool, true, false, cond}
 use mathlib.Core.List.{List, [], _∷_, _++_, append-nil}
 use Rattle.sets.specs.Sets.{absent, is, Set, Env, asSet}
 use Rattle.attrs.specs.Packed.{packed}
-use Rattle.rules.specs.Sheet.{What}
-use Rattle.rules.specs.Reading.{Glyph, unit, thing, unitsOf, glyphs, insert, delete, retain}
-use Rattle.rules.specs.Event.{Run, idle, inserting, deleting, retaining, Asm, addOp, Step, goes, starts, growInsert, growDelete, growRetain, Change, stays, becomes, breaks, markStep, step, told, inUnits, toldUnits}
+use Rattle.rules.specs.Reading.{Glyph, unit, thing, unitsOf, insert, delete, retain}
+use Rattle.rules.specs.Event.{Run, idle, inserting, deleting, retaining, Asm, addOp, Step, goes, starts, growInsert, growDelete, growRetain, Change, stays, becomes, breaks, markStep, told, inUnits, toldUnits}
 use Rattle.ops.specs.declared.delta.Inserted.{Inserted}
 use Rattle.ops.specs.declared.delta.Inserted.the-variants.{Text, Embed}
 use Rattle.ops.specs.declared.delta.Op.the-variants.{Insert}
@@ -18,7 +17,7 @@ use Rattle.assembling.specs.declared.runs.Action.the-variants.{Idle, Inserting,
 use Rattle.assembling.specs.declared.assembler.Assembler.{Assembler}
 use Rattle.assembling.specs.declared.runs.Turn.{Turn}
 use Rattle.assembling.specs.declared.assembler.Passed.{Passed}
-use Rattle.assembling.specs.Steps.{insertedBy, counted, actionOp, growInsertBy, growDeleteBy, growRetainBy, turnedBy, pendingOf, breaksBy, markTurn, goesOn, begins}
+use Rattle.assembling.specs.Steps.{insertedBy, actionOp, growInsertBy, growDeleteBy, growRetainBy, turnedBy, pendingOf, breaksBy, markTurn, goesOn, begins}
 use Rattle.events.specs.Told.{Ops, partOf, deltaOps, opsIn}
 
 -- ---- glyphs are counted

@@ -1,15 +1,14 @@
 -- The event as it is written: operations in numbers, and the units of their texts one after the other.
-use Prim.Native.Nat.{ℕ, zero, suc, _+_, _*_}
-use mathlib.Core.Bool.{Bool, true, false, cond, _&&_}
+use Prim.Native.Nat.{ℕ, _+_, _*_}
+use mathlib.Core.Bool.{Bool, false, cond}
 use mathlib.Core.List.{List, [], _∷_, _++_}
-use lib.Dec.{leb, ltb}
-use lib.ListN.{length, getD}
+use lib.Dec.{ltb}
+use lib.ListN.{getD}
 use lib.Seq.{sets}
 use Rattle.attrs.specs.declared.Attrs.{Attrs}
-use Rattle.sets.specs.Sets.{Set, empty, keys, bare}
+use Rattle.sets.specs.Sets.{empty, keys, bare}
 use Rattle.attrs.specs.Packed.{says, packed}
-use Rattle.rules.specs.Sheet.{What, text, embed, mark, Item}
-use Rattle.rules.specs.Reading.{Seen, Glyph, unit, thing, unitsOf, Op, insert, delete, retain}
+use Rattle.rules.specs.Reading.{Glyph, unit, thing, Op, insert, delete, retain}
 use Rattle.rules.specs.Event.{inUnits}
 use Rattle.ops.specs.declared.delta.Inserted.{Inserted}
 use Rattle.ops.specs.declared.delta.Inserted.the-variants.{Text, Embed}

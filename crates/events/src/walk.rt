@@ -8,7 +8,6 @@ use assembling::runs::inserted;
 use assembling::runs::seen_by;
 use layout::head::Head;
 use layout::word::unpack;
-ghost use mathlib.Core.Path.{_≡_};
 ghost use Prim.Native.Nat.{_*_, _≤_};
 ghost use lib.ListN.{length};
 ghost use Rattle.layout.specs.Memory.{listOf};

@@ -2,7 +2,6 @@
 use Prim.Native.Nat.{ℕ}
 use mathlib.Core.Path.{_≡_, ap, _∙_}
 use mathlib.Core.List.{List}
-use Rattle.layout.specs.declared.head.Head.{Head}
 use Rattle.items.specs.declared.Answer.{Answer}
 use Rattle.layout.specs.Memory.{Carried}
 use Rattle.changes.specs.Frame.{leaving}

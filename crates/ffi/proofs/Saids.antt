@@ -1,13 +1,11 @@
 -- A run that was asked for by its number, in eight numbers. Assumes nothing.
 use Prim.Native.Nat.{ℕ}
-use mathlib.Core.Path.{_≡_, refl, sym, ap, _∙_}
+use mathlib.Core.Path.{_≡_, refl, ap, _∙_}
 use mathlib.Core.List.{List, [], _∷_}
 use lib.ListN.{set}
 use lib.Seq.{sets}
 use Rattle.runs.specs.declared.calls.RunAnswer.{RunAnswer}
-use Rattle.runs.specs.declared.calls.Found.{Found}
 use Rattle.runs.specs.declared.calls.Found.the-variants.{Here, Nothing, Broken}
-use Rattle.runs.specs.declared.run.Run.{Run}
 use Rattle.runs.specs.Answers.{Said, said}
 use Rattle.ops.specs.declared.delta.DeltaOp.{DeltaOp}
 use Rattle.encoding.specs.Words.{wordsOf}

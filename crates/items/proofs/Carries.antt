@@ -1,6 +1,5 @@
 -- The ways of a call, and that it leaves a sound sheet. Assumes nothing.
-use Prim.Native.Nat.{ℕ, _≤_}
-use native.Mathlib.Omega.{arith}
+use Prim.Native.Nat.{ℕ}
 use mathlib.Core.Path.{_≡_, refl, sym, ap, _∙_}
 use mathlib.Core.Bool.{Bool, true, false, true≢false}
 use mathlib.Core.List.{List, [], _∷_}
@@ -17,7 +16,7 @@ use Rattle.layout.specs.Heads.{grownHead}
 use Rattle.layout.specs.Memory.{listOf, modelOf, soundOf, Sound, keptAll, storedAll, carryBy, carry}
 use Rattle.items.specs.Calls.{answerOf, restWord, sweepTo}
 use Rattle.layout.proofs.Soundness.{sound-parts, sound-whole}
-use Rattle.layout.proofs.Models.{used-length, model-sound, sound-head, stored-sound, stored-model}
+use Rattle.layout.proofs.Models.{model-sound, sound-head, stored-sound, stored-model}
 use Rattle.items.proofs.Sweeps.{begin-stored}
 
 -- ---- the three ways

@@ -1,10 +1,10 @@
 -- The laws of counting: how the width of a text and the place where a count ends go together.
-use Prim.Native.Nat.{ℕ, zero, suc, _+_, _-_, _≤_}
+use Prim.Native.Nat.{ℕ, _+_, _-_, _≤_}
 use mathlib.Core.Path.{_≡_, refl, sym, ap, _∙_}
-use mathlib.Core.List.{List, [], _∷_, _++_}
+use mathlib.Core.List.{_++_}
 use native.Mathlib.Omega.{arith}
-use Rattle.rules.specs.Sheet.{What, text, embed, mark, width}
-use Rattle.rules.specs.Reading.{Glyph, unitsOf, glyphs}
+use Rattle.rules.specs.Sheet.{text, width}
+use Rattle.rules.specs.Reading.{unitsOf, glyphs}
 use Rattle.rules.specs.Places.{leftHalf, rightHalf}
 use Rattle.laws.proofs.Places.{units-add}
 

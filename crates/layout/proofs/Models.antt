@@ -13,7 +13,7 @@ use Rattle.units.proofs.Halves.{both}
 use Rattle.rules.specs.Sheet.{What, text, embed, mark, Item}
 use Rattle.rules.specs.Sound.{Fits, AllFit, held}
 use Rattle.rules.specs.Calls.{Sheet, PairedWhat, AllPaired}
-use Rattle.rules.specs.Rulings.{InWord, AllInWord, Within, SoundSheet}
+use Rattle.rules.specs.Rulings.{InWord, AllInWord, SoundSheet}
 use Rattle.layout.specs.declared.head.Head.{Head}
 use Rattle.layout.specs.Word.{inRange}
 use Rattle.layout.specs.Chain.{END, itemAt, nextAt, chain, headOr}

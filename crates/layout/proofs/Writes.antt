@@ -1,15 +1,14 @@
 -- What writes do to the list. Three laws serve every write: a word that is not on the chain does not count (`keep`), a word that keeps its link changes its own
 -- item (`edit-chain`), and a new word behind item l stands behind l's item (`link-after`). The laws of the crate's writes, `kill-law` and `put-law`, follow. Assumes nothing.
-use Prim.Native.Nat.{ℕ, zero, suc, _+_, _-_, _*_, _/_, _%_, _<_, _≤_}
-use native.Mathlib.Numerals.{add-one}
+use Prim.Native.Nat.{ℕ, zero, suc, _+_, _/_, _%_, _<_, _≤_}
 use native.Mathlib.Omega.{arith}
 use mathlib.Core.Path.{_≡_, refl, sym, ap, ap₂, _∙_}
 use mathlib.Core.Bool.{Bool, true, false, cond}
-use mathlib.Core.List.{List, [], _∷_, _++_, map, append-assoc}
+use mathlib.Core.List.{List, [], _∷_, _++_, map}
 use lib.ListN.{length, getD, set, length-set}
 use lib.Seq.{getD-set-same, getD-set-other}
-use lib.Dec.{eqb, ltb, leb}
-use borrow.Author.Tests.{eq-eqb, ne-eqb, lt-ltb, eqb-true, eqb-false}
+use lib.Dec.{eqb, ltb}
+use borrow.Author.Tests.{lt-ltb, eqb-true, eqb-false}
 use Rattle.rules.specs.Sheet.{Item}
 use Rattle.layout.specs.Chain.{END, itemFrom, itemAt, nextAt, chain, walks, headOr, lastOr, editAt}
 use Rattle.layout.proofs.Links.{walks-zero, walks-parts, Off, Distinct, head-is}

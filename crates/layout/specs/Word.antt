@@ -1,6 +1,5 @@
 -- An item's word: what it says, and how it is made.
 use Prim.Native.Nat.{ℕ, _+_, _*_, _/_, _%_, _<_}
-use mathlib.Core.Path.{_≡_}
 use mathlib.Core.Bool.{Bool, true, false, cond, _&&_}
 use lib.Dec.{eqb, ltb}
 use Rattle.rules.specs.Sheet.{What, text, embed, mark}

@@ -1,14 +1,12 @@
 -- From the words of a line to what it asks of the table.
-use mathlib.Core.Path.{_≡_, refl, sym, ap, ap₂, _∙_}
-use mathlib.Core.Bool.{cond}
+use mathlib.Core.Path.{_≡_, sym, ap, ap₂, _∙_}
 use mathlib.Core.List.{List}
-use Prim.Native.Nat.{ℕ, _+_, _-_, _≤_}
+use Prim.Native.Nat.{ℕ, _-_, _≤_}
 use native.Mathlib.Omega.{arith}
 use borrow.Author.Tests.{eq-eqb, ne-eqb}
-use lib.Dec.{eqb}
 use lib.ListN.{length, take, drop, length-drop}
 use lib.Seq.{take-all}
-use Rattle.words.specs.Words.{WordIs, wordAt}
+use Rattle.words.specs.Words.{WordIs}
 use Rattle.words.specs.Numbers.{numberOf}
 use Rattle.lines.specs.Fields.{part, readAt}
 use Rattle.lines.specs.Calls.{nameOf}

@@ -1,13 +1,13 @@
 -- From the words of a line to its call.
-use mathlib.Core.Path.{_≡_, refl, sym, ap, ap₂, subst, _∙_}
+use mathlib.Core.Path.{_≡_, refl, sym, ap, ap₂, _∙_}
 use mathlib.Core.Bool.{Bool, true, false, cond}
-use mathlib.Core.List.{List, [], _∷_}
-use Prim.Native.Nat.{ℕ, zero, suc, _+_, _≤_}
+use mathlib.Core.List.{List, []}
+use Prim.Native.Nat.{ℕ, _+_, _≤_}
 use native.Mathlib.Omega.{arith}
 use borrow.Author.Tests.{eq-eqb, ne-eqb}
 use lib.Dec.{eqb}
 use lib.ListN.{length, getD}
-use Rattle.words.specs.Words.{WordIs, wordAt}
+use Rattle.words.specs.Words.{WordIs}
 use Rattle.words.specs.Numbers.{numberOf}
 use Rattle.lines.specs.Fields.{part, readAt, startAt, gather, Gathered, Gathers}
 use Rattle.lines.specs.Calls.{kindOf, numbered, numberAt, NumberIs, bareAsked, askedOf, plainWith, plainAsked, textCall, marksOf, fieldsFrom, textWith, unitsWith, textAsked, TextAsked, rangedOf, rangedWith, rangedAsked, RangedAsked, askedBy, unitsBy, silent, nameOf, askedIn, unitsIn, CallAsked}

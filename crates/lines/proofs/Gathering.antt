@@ -1,17 +1,17 @@
 -- The words of a line: what each is, what it adds, and the walk over them.
 use mathlib.Core.Path.{_≡_, refl, sym, ap, ap₂, _∙_}
 use mathlib.Core.Bool.{Bool, true, false, cond}
-use mathlib.Core.List.{List, [], _∷_}
+use mathlib.Core.List.{List}
 use Prim.Native.Nat.{ℕ, zero, suc, _+_, _-_, _≤_, _<_}
 use native.Mathlib.Omega.{arith}
 use borrow.Author.Tests.{eq-eqb, ne-eqb, lt-ltb, le-ltb, ltb-true}
 use lib.Dec.{eqb, ltb}
-use lib.ListN.{length, set, length-set}
+use lib.ListN.{length, length-set}
 use Rattle.attrs.specs.declared.Took.{Took}
 use Rattle.attrs.specs.Packed.{withAt}
 use Rattle.words.specs.Words.{WordIs}
 use Rattle.words.specs.Numbers.{pieceOf}
-use Rattle.lines.specs.Fields.{letterOf, part, fieldOf, readOf, readAt, ReadIs, stoppedAt, orElse, pairField, unitField, pieceField, withField, pieceUnits, withUnits, Takes, Gathered, gather, Gathers}
+use Rattle.lines.specs.Fields.{letterOf, part, fieldOf, readOf, readAt, ReadIs, stoppedAt, orElse, pairField, unitField, withField, withUnits, Takes, gather, Gathers}
 use Rattle.words.specs.declared.words.Word.{Word as Found}
 use Rattle.words.specs.declared.numbers.Piece.{Piece}
 use Rattle.words.specs.declared.numbers.Piece.the-variants.{Unit, Pair, Nothing}

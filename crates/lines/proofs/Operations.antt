@@ -1,22 +1,17 @@
 -- From the words of a line to the operations of a delta.
 use mathlib.Core.Path.{_≡_, refl, sym, ap, ap₂, _∙_}
-use mathlib.Core.Bool.{true, false, cond}
 use mathlib.Core.List.{List, []}
 use Prim.Native.Nat.{ℕ, zero, suc, _+_, _-_, _≤_, _<_}
 use native.Mathlib.Omega.{arith}
 use borrow.Author.Tests.{eq-eqb, ne-eqb}
-use lib.Dec.{eqb}
 use lib.ListN.{length}
-use Rattle.ops.specs.Ops.{pushed}
 use Rattle.ops.specs.declared.delta.Inserted.the-variants.{Text}
 use Rattle.ops.specs.declared.delta.Op.{Op}
 use Rattle.ops.specs.declared.delta.Op.the-variants.{Insert}
-use Rattle.ops.specs.declared.delta.Delta.{Delta}
-use Rattle.ops.specs.declared.delta.Pushed.{Pushed}
 use Rattle.words.specs.Words.{WordIs, wordAt}
-use Rattle.lines.specs.Fields.{readAt, startAt, gather, Gathered, Gathers, orElse}
-use Rattle.lines.specs.Calls.{numberAt, NumberIs, nameOf}
-use Rattle.lines.specs.Deltas.{Taken, startOps, stoppedOps, longerOf, withOp, withText, textOp, opMarks, opOf, numberedWith, numberedOp, NumberedIs, sortOf, opBy, opIn, allOps, opsBy, deltaIn, ReadTo}
+use Rattle.lines.specs.Fields.{readAt, startAt, gather, Gathered, Gathers}
+use Rattle.lines.specs.Calls.{NumberIs, nameOf}
+use Rattle.lines.specs.Deltas.{Taken, startOps, stoppedOps, withOp, withText, textOp, opMarks, opOf, numberedWith, numberedOp, NumberedIs, sortOf, opBy, opIn, allOps, opsBy, deltaIn, ReadTo}
 use Rattle.words.specs.declared.words.Word.{Word as Found}
 use Rattle.words.specs.declared.numbers.Number.{Number}
 use Rattle.words.specs.declared.numbers.Number.the-variants.{Is, Nothing as NoNumber}
@@ -25,7 +20,7 @@ use Rattle.lines.specs.declared.fields.Read.{Read}
 use Rattle.lines.specs.declared.fields.Fields.{Fields}
 use Rattle.lines.specs.declared.calls.Numbered.{Numbered}
 use Rattle.lines.specs.declared.deltas.Sort.{Sort}
-use Rattle.lines.specs.declared.deltas.Sort.the-variants.{Texts, Numbers, Neither}
+use Rattle.lines.specs.declared.deltas.Sort.the-variants.{Numbers}
 use Rattle.lines.specs.declared.deltas.AskedDelta.{AskedDelta}
 
 -- ---- one operation

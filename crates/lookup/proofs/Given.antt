@@ -1,5 +1,5 @@
 -- What was asked for is read back. Assumes nothing.
-use Prim.Native.Nat.{ℕ, _+_, _-_, _<_, _≤_}
+use Prim.Native.Nat.{ℕ, _+_, _<_, _≤_}
 use native.Mathlib.Omega.{arith}
 use mathlib.Core.Path.{_≡_, refl, sym, ap, ap₂, _∙_}
 use mathlib.Core.Bool.{true, false}
@@ -8,7 +8,7 @@ use mir.Syntax.{w64}
 use mir.Val.{SFits, ofZ}
 use mir.Facts.{toZ-ofZ, fits-ofZ}
 use borrow.Author.Tests.{lt-ltb, le-leb, ne-eqb}
-use Rattle.entries.specs.Entry.{kindAt, contentAt, entryAt, entries, seek}
+use Rattle.entries.specs.Entry.{kindAt, contentAt, entryAt, seek}
 use Rattle.entries.specs.Number.{numberOf}
 use Rattle.table.specs.declared.TableHead.{TableHead}
 use Rattle.table.specs.Value.{Value, bool, int, string, kindOf, contentOf}

@@ -1,9 +1,8 @@
 -- What the code reads off a set, and off the word of an item. Assumes nothing.
 use Prim.Native.Nat.{ℕ, _/_}
-use mathlib.Core.Path.{_≡_, refl, ap}
-use mathlib.Core.Bool.{true, false, not, _||_, false≢true, true≢false, cond}
-use lib.Dec.{eqb}
-use Rattle.sets.specs.Sets.{Slot, absent, is, Set, isAbsent, lay, slotIs}
+use mathlib.Core.Path.{_≡_, ap}
+use mathlib.Core.Bool.{_||_, cond}
+use Rattle.sets.specs.Sets.{Set}
 use Rattle.rules.specs.Places.{agrees, forget}
 use Rattle.layout.specs.declared.word.Item.{Item}
 use Rattle.layout.specs.Word.{whatOf, unpackOf}

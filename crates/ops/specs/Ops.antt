@@ -1,10 +1,9 @@
 -- Operations by value: what they say to the rules, and a delta that grows.
-use Prim.Native.Nat.{ℕ, zero, suc, _+_, _≤_}
-use mathlib.Core.Bool.{Bool, true, false, cond}
-use mathlib.Core.List.{List, [], _∷_, map}
+use Prim.Native.Nat.{ℕ, _+_}
+use mathlib.Core.Bool.{cond}
+use mathlib.Core.List.{List, map}
 use lib.Dec.{ltb}
 use lib.ListN.{take, drop, set, replicate}
-use Rattle.attrs.specs.declared.Attrs.{Attrs}
 use Rattle.sets.specs.Sets.{Set, empty}
 use Rattle.attrs.specs.Packed.{says, packed}
 use Rattle.rules.specs.Calls.{Body, words, object}

@@ -1,7 +1,7 @@
 // Operations by value. The attribute set of an operation lies beside it; a Delete's is not read.
 use attrs::Attrs;
 ghost use mathlib.Core.Path.{_≡_};
-ghost use Rattle.ops.specs.Ops.{noOp, emptyDelta, pushed};
+ghost use Rattle.ops.specs.Ops.{emptyDelta, pushed};
 
 // A part of the lent units, or an embed.
 pub enum Inserted {

@@ -21,7 +21,6 @@ use Rattle.layout.proofs.Soundness.{sound-parts}
 use Rattle.layout.proofs.Models.{model-sound, used-length}
 use Rattle.ranges.specs.declared.Place.{Place}
 use Rattle.ranges.specs.declared.Shown.{Shown}
-use Rattle.items.specs.Calls.{shownLen}
 use Rattle.runs.specs.Answers.{written, answer}
 use Rattle.ranges.specs.Texts.{visibleIn, textIn, splitsAt, textAnswer, Copied, showing, Reads, Given}
 use Rattle.runs.proofs.Tallies.{start-stands}

@@ -2,7 +2,7 @@
 use Prim.Native.Nat.{ℕ, suc, _/_, _<_, _≤_}
 use mathlib.Core.Path.{_≡_, refl, ap}
 use mathlib.Core.Bool.{true, false, cond, not, _&&_}
-use mathlib.Core.List.{List, [], _∷_}
+use mathlib.Core.List.{List, _∷_}
 use Rattle.sets.specs.Sets.{Env}
 use Rattle.rules.specs.Sheet.{Item, isMark}
 use Rattle.rules.specs.Places.{Move}

@@ -1,15 +1,15 @@
 -- The calls: from a sheet to a refusal number (0: accepted) and a sheet. Refusals that need memory (5 to 9, 16) are not here.
-use Prim.Native.Nat.{ℕ, zero, suc, _+_, _-_, min}
+use Prim.Native.Nat.{ℕ, _+_, _-_, min}
 use mathlib.Core.Path.{_≡_}
-use mathlib.Core.Bool.{Bool, true, false, cond, not, _&&_, _||_}
+use mathlib.Core.Bool.{Bool, true, cond, not, _&&_, _||_}
 use mathlib.Core.List.{List, [], _∷_, _++_, map}
 use lib.Dec.{eqb, leb, ltb}
 use lib.ListN.{length, getD, take, drop}
 use Rattle.units.specs.Surrogates.{paired, splitsPair}
 use Rattle.sets.specs.Sets.{Set}
-use Rattle.rules.specs.Sheet.{What, text, embed, mark, Flags, Item, dead, begin}
+use Rattle.rules.specs.Sheet.{What, text, embed, mark, Item, begin}
 use Rattle.rules.specs.Reading.{Glyph, unit, thing, seenGlyphs, Op, insert, delete, retain}
-use Rattle.rules.specs.Places.{At, whole, stay, Move}
+use Rattle.rules.specs.Places.{At, whole, Move}
 use Rattle.rules.specs.Edits.{byIndex, plainText, plainEmbed, insertWith, format, remove}
 use Rattle.rules.specs.Delta.{Given, newText, newEmbed, delta}
 

@@ -1,8 +1,8 @@
 -- A delta: its operations one after the other, from the head, where nothing is in force.
-use Prim.Native.Nat.{ℕ, zero, suc, _+_}
-use mathlib.Core.List.{List, [], _∷_, _++_, map}
+use Prim.Native.Nat.{ℕ, zero, suc}
+use mathlib.Core.List.{List, [], _∷_}
 use Rattle.sets.specs.Sets.{Set, none}
-use Rattle.rules.specs.Sheet.{What, text, embed, mark, Item}
+use Rattle.rules.specs.Sheet.{What, text, embed, Item}
 use Rattle.rules.specs.Reading.{Op, insert, delete, retain, Glyph, glyphs}
 use Rattle.rules.specs.Places.{At, stay, Move, andThen}
 use Rattle.rules.specs.Edits.{insertWith, format, deleteHere}

@@ -1,13 +1,11 @@
 -- The edits, as moves from a place, and by index.
 use Prim.Native.Nat.{ℕ, zero, suc, _+_, _-_}
-use mathlib.Core.Bool.{Bool, true, false, cond, not, _&&_, _||_}
+use mathlib.Core.Bool.{Bool, false, cond, not, _&&_, _||_}
 use mathlib.Core.List.{List, [], _∷_, _++_, map}
 use lib.Dec.{eqb, leb, ltb}
-use lib.ListN.{length}
 use Rattle.sets.specs.Sets.{absent, is, Set, empty, Env, none, keys, at, isAbsent, bare, isNone, slotIs, opened, former, completed}
-use Rattle.rules.specs.Sheet.{What, text, embed, mark, Flags, Item, dead, like, new, kill, width, isMark}
-use Rattle.rules.specs.Reading.{live, force}
-use Rattle.rules.specs.Places.{At, whole, stay, over, Move, after, andThen, split, place, agrees, settle, putMarks, put, close}
+use Rattle.rules.specs.Sheet.{What, text, embed, mark, Item, dead, new, kill, width, isMark}
+use Rattle.rules.specs.Places.{At, stay, over, Move, after, andThen, split, place, settle, putMarks, put, close}
 
 -- an edit by index: Place, then the move
 abbrev pub byIndex : ℕ → Move → List Item → ℕ → At

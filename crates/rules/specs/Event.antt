@@ -1,11 +1,11 @@
 -- The event: `get_delta`, over two readings of the same list. `was` sees what stood before, `now` what stands now.
-use Prim.Native.Nat.{ℕ, zero, suc, _+_}
-use mathlib.Core.Bool.{Bool, true, false, cond, not, _&&_, _||_}
+use Prim.Native.Nat.{ℕ, suc, _+_}
+use mathlib.Core.Bool.{Bool, true, false, cond, not, _&&_}
 use mathlib.Core.List.{List, [], _∷_, _++_}
 use lib.Dec.{eqb}
-use lib.ListN.{length, replicate}
+use lib.ListN.{replicate}
 use Rattle.sets.specs.Sets.{Slot, absent, is, Set, empty, Env, none, keys, at, bare, nonNull, asSet}
-use Rattle.rules.specs.Sheet.{What, text, embed, mark, Flags, Item, width, isMark}
+use Rattle.rules.specs.Sheet.{What, text, embed, mark, Item, width, isMark}
 use Rattle.rules.specs.Reading.{Seen, passKey, Glyph, unit, thing, glyphs, Op, insert, delete, retain}
 
 -- the run that grows: get_delta's action with what it has gathered

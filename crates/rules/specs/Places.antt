@@ -1,11 +1,11 @@
 -- Places, and the moves that every edit is made of: Place, Settle, putting, Close.
 use Prim.Native.Nat.{ℕ, zero, suc, _+_, _-_}
-use mathlib.Core.Bool.{Bool, true, false, cond, not, _&&_, _||_}
+use mathlib.Core.Bool.{Bool, false, cond, _||_}
 use mathlib.Core.List.{List, [], _∷_, _++_}
-use lib.Dec.{eqb, leb}
+use lib.Dec.{leb}
 use lib.ListN.{length}
 use Rattle.sets.specs.Sets.{Slot, absent, is, Set, Env, keys, at, slotIs}
-use Rattle.rules.specs.Sheet.{What, text, embed, mark, Flags, Item, dead, like, new, width}
+use Rattle.rules.specs.Sheet.{What, text, embed, mark, Item, dead, like, new, width}
 use Rattle.rules.specs.Reading.{live, force}
 
 -- A place: the list left and right of it, and the next unused number.

@@ -1,9 +1,9 @@
 -- What a reader sees: units and embeds with the values in force on them, and what a delta makes of these.
 use Prim.Native.Nat.{ℕ, zero, suc, _+_}
-use mathlib.Core.Bool.{Bool, true, false, cond, not, _&&_, _||_}
+use mathlib.Core.Bool.{Bool, cond, not, _&&_, _||_}
 use mathlib.Core.List.{List, [], _∷_, _++_, map}
 use lib.Dec.{eqb}
-use lib.ListN.{length, take, drop}
+use lib.ListN.{take, drop}
 use Rattle.sets.specs.Sets.{Slot, Set, lay}
 use Rattle.rules.specs.Sheet.{What, text, embed, mark, Flags, Item, width}
 

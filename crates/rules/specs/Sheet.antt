@@ -1,8 +1,7 @@
 -- What a sheet holds: items in a row, each live or deleted.
-use Prim.Native.Nat.{ℕ, zero, suc}
-use mathlib.Core.Bool.{Bool, true, false, cond, not, _&&_, _||_}
-use mathlib.Core.List.{List, [], _∷_, map}
-use lib.Dec.{eqb}
+use Prim.Native.Nat.{ℕ}
+use mathlib.Core.Bool.{Bool, true, false}
+use mathlib.Core.List.{List, map}
 
 -- The three kinds of items. A text is a part of the sheet's units, by where it starts and its length (1 or more);
 -- an embed is a 32-bit number that counts as one unit; a mark says that a key has a value from here on, and is 0 long.

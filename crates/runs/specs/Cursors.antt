@@ -7,7 +7,7 @@ use lib.ListN.{length, drop}
 use Rattle.sets.specs.Sets.{empty, keys, asSet, sameSets, present}
 use Rattle.attrs.specs.Packed.{says, envOf, packed, updateAt}
 use Rattle.attrs.specs.declared.Attrs.{Attrs}
-use Rattle.rules.specs.Sheet.{What, text, embed, mark, width, isMark, Item}
+use Rattle.rules.specs.Sheet.{What, text, embed, mark, isMark, Item}
 use Rattle.rules.specs.Reading.{visible, Glyph}
 use Rattle.rules.specs.Runs.{runsFrom}
 use Rattle.rules.specs.Sound.{AllFit}

@@ -4,9 +4,9 @@ use mathlib.Core.Bool.{Bool, true, false}
 use mathlib.Core.List.{List}
 use Rattle.sets.specs.Sets.{Set}
 use Rattle.rules.specs.Calls.{Call, insertText, insertTextWith, insertEmbed, insertEmbedWith}
-use Rattle.layout.specs.declared.word.Content.the-variants.{Text, Embed, Mark}
+use Rattle.layout.specs.declared.word.Content.the-variants.{Text, Embed}
 use Rattle.changes.specs.declared.change.Change.{Change}
-use Rattle.changes.specs.declared.change.Change.the-variants.{PlainText, PlainEmbed, With, Format, Remove}
+use Rattle.changes.specs.declared.change.Change.the-variants.{PlainText, PlainEmbed, With}
 
 -- The call for text: plain, or with a set.
 abbrev pub textCall : Bool → ℕ → List ℕ → Set → Call

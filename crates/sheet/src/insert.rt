@@ -1,6 +1,6 @@
 // Text and embeds, at an index.
 ghost use mathlib.Core.Path.{_≡_};
-ghost use Prim.Native.Nat.{_<_, _≤_, _+_};
+ghost use Prim.Native.Nat.{_+_};
 ghost use Rattle.attrs.specs.Packed.{says};
 ghost use Rattle.rules.specs.Calls.{insertText, insertTextWith, insertEmbed, insertEmbedWith};
 ghost use Rattle.layout.specs.Memory.{carry};

@@ -1,18 +1,16 @@
 -- What a sound table holds, part by part. Assumes nothing.
-use Prim.Native.Nat.{ℕ, zero, suc, _+_, _-_, _<_, _≤_}
-use native.Mathlib.Nat.{add-zero}
+use Prim.Native.Nat.{ℕ, _+_, _≤_}
 use native.Mathlib.Omega.{arith}
 use mathlib.Core.Path.{_≡_, refl}
-use mathlib.Core.Logic.{_⊎_, inl, inr}
 use mathlib.Core.Bool.{Bool, true, false, cond}
 use mathlib.Core.List.{List}
-use lib.ListN.{length, length-take}
+use lib.ListN.{length}
 use lib.Dec.{eqb, leb}
-use borrow.Author.Tests.{eqb-true, leb-true, ltb-true, eq-eqb, le-leb, le-ltb}
+use borrow.Author.Tests.{eqb-true, leb-true, eq-eqb, le-leb}
 use Rattle.table.specs.declared.TableHead.{TableHead}
 use Rattle.table.specs.declared.Shelf.{Shelf}
-use Rattle.entries.specs.Entry.{lengthAt, kindAt, contentAt, entries}
-use Rattle.entries.specs.Order.{fits, fitsAt, allFit, distinct, shelfSound}
+use Rattle.entries.specs.Entry.{entries}
+use Rattle.entries.specs.Order.{allFit, distinct, shelfSound}
 use Rattle.table.specs.Sound.{freshHead, soundOf}
 use Rattle.table.specs.Ask.{nameShelf, valueShelf, shelfOf}
 

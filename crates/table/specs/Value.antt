@@ -2,11 +2,10 @@
 use Prim.Native.Nat.{ℕ}
 use mathlib.Core.Bool.{Bool, cond}
 use mathlib.Core.List.{List, [], _∷_}
-use lib.Dec.{eqb}
 use lib.IntN.{ℤ}
 use mir.Syntax.{w64}
-use mir.Val.{ofZ, toZ}
-use Rattle.entries.specs.Number.{lowBytes, numberOf}
+use mir.Val.{ofZ}
+use Rattle.entries.specs.Number.{lowBytes}
 
 pub data Value : Type 0 where
   bool : Bool → Value

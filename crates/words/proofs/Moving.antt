@@ -1,7 +1,7 @@
 -- Input that waits: its first line, and its move to the front.
 use mathlib.Core.Path.{_≡_, refl, sym, ap, ap₂, _∙_}
-use mathlib.Core.List.{List, [], _∷_, _++_}
-use Prim.Native.Nat.{ℕ, zero, suc, _+_, _-_, _≤_, _<_}
+use mathlib.Core.List.{List, _++_}
+use Prim.Native.Nat.{ℕ, suc, _+_, _-_, _≤_, _<_}
 use native.Mathlib.Omega.{arith}
 use native.Mathlib.Numerals.{add-one}
 use borrow.Author.Tests.{lt-ltb, le-ltb, ltb-true}
@@ -12,7 +12,6 @@ use lib.Seq.{paste, paste-suc, length-paste, take-at, drop-at, getD-drop, length
 use Rattle.words.specs.Words.{leading, Spans}
 use Rattle.words.specs.Input.{waiting, lineOf, Moved}
 use Rattle.words.specs.declared.words.Class.the-variants.{Line as ToNewline}
-use Rattle.words.specs.declared.input.Line.{Line}
 use Rattle.words.specs.declared.input.Line.the-variants.{Whole, Part}
 
 module _ (w : List ℕ) (e : ℕ) (s : Spans ToNewline w 0 e) where

@@ -1,7 +1,7 @@
 -- `encoding::kind_of` meets its contract. Assumes nothing.
 use Rattle.encoding.proofs.kind_of.Statement.{statement}
 use Rattle.encoding.proofs.kind_of.Tie as tie
-use borrow.Author.Tests.{eq-eqb, ne-eqb}
+use borrow.Author.Tests.{ne-eqb}
 
 returns : tie.Need-returns
 returns c = rw (c .if1 .taken)

@@ -2,7 +2,6 @@
 use mathlib.Core.Path.{sym, _∙_}
 use borrow.Author.Needs.{needs}
 use borrow.Author.Tests.{not-true, not-false}
-use denote.Ref.{now}
 use Rattle.items.proofs.Showing.{length-broken, length-is}
 use Rattle.items.proofs.len.Statement.{statement}
 use Rattle.items.proofs.len.Tie as tie

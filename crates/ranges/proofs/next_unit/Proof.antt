@@ -2,7 +2,7 @@
 use Rattle.layout.specs.Chain.{itemAt}
 use Rattle.ranges.proofs.next_unit.Statement.{statement}
 use Rattle.ranges.proofs.next_unit.Tie as tie
-use Prim.Native.Nat.{_-_, _<_}
+use Prim.Native.Nat.{_<_}
 use native.Mathlib.Omega.{arith}
 use mathlib.Core.Path.{_≡_, refl, _∙_}
 use lib.ListN.{length}

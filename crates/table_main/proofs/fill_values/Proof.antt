@@ -1,5 +1,5 @@
 -- `table_main::fill_values` meets its contract. Assumes nothing.
-use Prim.Native.Nat.{_≤_, _-_}
+use Prim.Native.Nat.{_≤_}
 use borrow.Author.Needs.{needs}
 use Rattle.table_main.proofs.fill_values.Statement.{statement}
 use Rattle.table_main.proofs.fill_values.Tie as tie

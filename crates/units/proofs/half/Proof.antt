@@ -1,5 +1,4 @@
 -- `units::half` meets its contract: the unit's kind settles it. Assumes nothing.
-use Prim.Native.Nat.{_≤_}
 use native.Mathlib.Omega.{arith}
 use mathlib.Core.Path.{sym, ap, _∙_}
 use borrow.Author.Needs.{needs}

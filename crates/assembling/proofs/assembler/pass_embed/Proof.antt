@@ -2,7 +2,7 @@
 use borrow.Author.Needs.{needs}
 use Rattle.assembling.proofs.assembler.pass_embed.Statement.{statement}
 use Rattle.assembling.proofs.assembler.pass_embed.Tie as tie
-use borrow.Author.Tests.{eq-eqb, ne-eqb, not-true, not-false}
+use borrow.Author.Tests.{not-true, not-false}
 
 pass-text-requires : tie.Need-pass-text-requires
 pass-text-requires c κs = search needs

@@ -1,7 +1,7 @@
 -- `assembling::marks::pending_kept` meets its contract. Assumes nothing.
 use Rattle.assembling.proofs.marks.pending_kept.Statement.{statement}
 use Rattle.assembling.proofs.marks.pending_kept.Tie as tie
-use borrow.Author.Tests.{eq-eqb, ne-eqb, not-true, not-false}
+use borrow.Author.Tests.{eq-eqb, ne-eqb}
 
 returns : tie.Need-returns
 returns c = rw (eq-eqb _ _ (c .if1 .taken))

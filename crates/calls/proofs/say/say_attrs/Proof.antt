@@ -2,7 +2,6 @@ use borrow.Author.Needs.{needs}
 use Rattle.calls.proofs.say.say_attrs.Statement.{statement}
 use Rattle.calls.proofs.say.say_attrs.Tie as tie
 use mathlib.Core.Path.{sym}
-use native.Mathlib.Omega.{arith}
 use lib.Seq.{length-take-le}
 
 slice-aggregate-put-attrs : tie.Need-slice-aggregate-put-attrs

@@ -1,7 +1,7 @@
 -- `deltas::append::append_op` meets its contract: a text is put, all else puts nothing. Assumes nothing.
 use Prim.Native.Nat.{_+_, _≤_}
 use native.Mathlib.Omega.{arith}
-use mathlib.Core.Path.{_≡_, refl, ap, subst, _∙_}
+use mathlib.Core.Path.{refl, ap, subst, _∙_}
 use lib.ListN.{length}
 use denote.Ref.{now}
 use Rattle.ops.specs.declared.delta.Inserted.{Inserted}

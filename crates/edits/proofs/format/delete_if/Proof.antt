@@ -1,5 +1,4 @@
-use mathlib.Core.Path.{_≡_, refl, sym, ap, _∙_}
-use borrow.Author.Tests.{eq-eqb, ne-eqb, le-leb, lt-leb, lt-ltb, le-ltb, not-true, not-false}
+use borrow.Author.Tests.{ne-eqb}
 use borrow.Author.Needs.{needs}
 use Rattle.edits.proofs.format.delete_if.Statement.{statement}
 use Rattle.edits.proofs.format.delete_if.Tie as tie

@@ -4,8 +4,8 @@ use Rattle.attrs.specs.Packed.{says}
 use Rattle.attrs.specs.declared.Took.{Took}
 use Rattle.layout.specs.declared.word.Content.the-variants.{Mark}
 use Rattle.layout.specs.declared.word.Item.{Item}
-use mathlib.Core.Path.{_≡_, refl, sym, ap, _∙_}
-use borrow.Author.Tests.{eq-eqb, ne-eqb, le-leb, lt-leb, lt-ltb, le-ltb, not-true, not-false}
+use mathlib.Core.Path.{sym, ap, _∙_}
+use borrow.Author.Tests.{ne-eqb}
 use borrow.Author.Needs.{needs}
 use Rattle.edits.proofs.format.remembered_after.Statement.{statement}
 use Rattle.edits.proofs.format.remembered_after.Tie as tie

@@ -1,12 +1,12 @@
 -- `edits::format::walk` meets its contract: what is left of the walk gives what the whole walk gives. Assumes nothing.
-use Prim.Native.Nat.{ℕ, _+_, _≤_, _<_}
-use mathlib.Core.Path.{_≡_, refl, sym, ap, _∙_}
+use Prim.Native.Nat.{_<_}
+use mathlib.Core.Path.{sym, _∙_}
 use native.Mathlib.Omega.{arith}
 use borrow.Author.Needs.{needs}
 use lib.ListN.{length}
 use Rattle.attrs.specs.Packed.{says}
 use Rattle.rules.specs.Edits.{walking}
-use Rattle.arena.specs.Places.{Standing, Carried, Going}
+use Rattle.arena.specs.Places.{Going}
 use Rattle.arena.proofs.Carried.{going-start}
 use Rattle.arena.proofs.Standing.{right-lt, neat-here}
 use Rattle.arena.proofs.Steps.{forward-carried, cut-more}

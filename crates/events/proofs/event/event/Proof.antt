@@ -3,11 +3,10 @@ use borrow.Author.Needs.{needs}
 use Rattle.events.proofs.event.event.Statement.{statement}
 use Rattle.events.proofs.event.event.Tie as tie
 use native.Mathlib.Omega.{arith}
-use mathlib.Core.Path.{_≡_, refl, sym, ap₂, _∙_}
+use mathlib.Core.Path.{refl, sym, ap₂, _∙_}
 use Prim.Native.Nat.{ℕ}
 use borrow.Author.Tests.{not-true, not-false}
 use Rattle.layout.proofs.Soundness.{sound-parts}
-use Rattle.events.specs.declared.event.EventAnswer.{EventAnswer}
 use Rattle.events.proofs.Events.{walkable, given-broken, same, ops-is, units-is, no-words, no-units, all-fits, wrote, text-room, filled}
 
 sound-requires : tie.Need-sound-requires

@@ -2,8 +2,8 @@
 use Rattle.events.proofs.walk.walk.Statement.{statement}
 use Rattle.events.proofs.walk.walk.Tie as tie
 use native.Mathlib.Omega.{arith}
-use Prim.Native.Nat.{ℕ, _+_, _<_, _≤_}
-use mathlib.Core.Path.{_≡_, refl, sym, ap, _∙_}
+use Prim.Native.Nat.{ℕ, _+_, _<_}
+use mathlib.Core.Path.{_≡_, refl, ap, _∙_}
 use lib.ListN.{length}
 use denote.Ref.{now}
 use Rattle.layout.proofs.Links.{walks-lt}

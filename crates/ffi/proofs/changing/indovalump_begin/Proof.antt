@@ -1,6 +1,5 @@
 -- `ffi::changing::indovalump_begin` meets its contract. Assumes nothing.
 use mathlib.Core.Path.{sym}
-use Rattle.ffi.proofs.Lefts.{left-is}
 -- `ffi::changing::indovalump_begin` meets its contract. Assumes nothing.
 use mathlib.Core.Path.{sym, _∙_}
 use borrow.Author.Needs.{needs}

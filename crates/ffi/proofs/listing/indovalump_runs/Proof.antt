@@ -1,6 +1,5 @@
 -- `ffi::listing::indovalump_runs` meets its contract. Assumes nothing.
 use native.Mathlib.Omega.{arith}
-use mathlib.Core.Path.{sym}
 use Rattle.ffi.proofs.Plans.{plan-asks, plan-wrote, plan-none}
 use borrow.Author.Needs.{needs}
 use Rattle.ffi.proofs.listing.indovalump_runs.Statement.{statement}

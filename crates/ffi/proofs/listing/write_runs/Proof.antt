@@ -1,7 +1,6 @@
 -- `ffi::listing::write_runs` meets its contract. Assumes nothing.
 use Prim.Native.Nat.{_-_}
 use native.Mathlib.Omega.{arith}
-use mathlib.Core.Path.{_≡_, sym, ap, _∙_}
 use borrow.Author.Needs.{needs}
 use Rattle.ffi.proofs.Writings.{Writing, writing-start, fewer, writing-next, writing-end}
 use Rattle.ffi.proofs.listing.write_runs.Statement.{statement}

@@ -1,7 +1,7 @@
 use borrow.Author.Needs.{needs}
 use Rattle.lines.proofs.asks.named_entry.Statement.{statement}
 use Rattle.lines.proofs.asks.named_entry.Tie as tie
-use borrow.Author.Tests.{eq-eqb, ne-eqb}
+use borrow.Author.Tests.{ne-eqb}
 use mathlib.Core.Path.{_∙_}
 
 returns : tie.Need-returns

@@ -1,7 +1,7 @@
 -- `sheet::insert::put_text` meets its contract: each way by its law. Assumes nothing.
 use Prim.Native.Nat.{_+_, _<_, _≤_}
 use native.Mathlib.Omega.{arith}
-use mathlib.Core.Path.{_≡_, sym, ap, subst⁻¹, _∙_}
+use mathlib.Core.Path.{_≡_, sym, subst⁻¹, _∙_}
 use mathlib.Core.Bool.{true}
 use mathlib.Core.List.{_++_}
 use lib.ListN.{length, take}

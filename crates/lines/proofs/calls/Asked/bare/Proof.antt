@@ -1,7 +1,6 @@
 use borrow.Author.Needs.{needs}
 use Rattle.lines.proofs.calls.Asked.bare.Statement.{statement}
 use Rattle.lines.proofs.calls.Asked.bare.Tie as tie
-use mathlib.Core.Path.{ap}
 
 empty-requires : tie.Need-empty-requires
 empty-requires c κs = search needs

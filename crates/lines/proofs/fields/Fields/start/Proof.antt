@@ -1,7 +1,6 @@
 use borrow.Author.Needs.{needs}
 use Rattle.lines.proofs.fields.Fields.start.Statement.{statement}
 use Rattle.lines.proofs.fields.Fields.start.Tie as tie
-use mathlib.Core.Path.{ap}
 
 empty-requires : tie.Need-empty-requires
 empty-requires c κs = search needs

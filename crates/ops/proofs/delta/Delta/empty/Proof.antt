@@ -2,7 +2,6 @@
 use borrow.Author.Needs.{needs}
 use Rattle.ops.proofs.delta.Delta.empty.Statement.{statement}
 use Rattle.ops.proofs.delta.Delta.empty.Tie as tie
-use mathlib.Core.Path.{refl, _∙_, sym, ap}
 use Rattle.ops.specs.Ops.{emptyDelta}
 
 empty-requires : tie.Need-empty-requires
