@@ -1,10 +1,10 @@
--- What a sound sheet gives those who read it. Assumes nothing.
+-- A sound sheet can be loaded. Assumes nothing.
 use Prim.Native.Nat.{ℕ, _≤_}
 use native.Mathlib.Omega.{arith}
-use mathlib.Core.Path.{_≡_, refl, sym}
+use mathlib.Core.Path.{_≡_, refl}
 use mathlib.Core.Bool.{true}
 use mathlib.Core.List.{List}
-use lib.ListN.{length, getD, take}
+use lib.ListN.{getD}
 use Rattle.layout.specs.declared.head.Head.{Head}
 use Rattle.layout.specs.declared.word.Content.{Content}
 use Rattle.layout.specs.declared.word.Content.the-variants.{Text, Embed, Mark}
@@ -13,9 +13,8 @@ use Rattle.layout.specs.Memory.{whatOk, wordOk, soundOf}
 use Rattle.layout.proofs.Words.{fitting-unpack}
 use Rattle.layout.proofs.Soundness.{sound-parts, piece-parts, mark-parts, word-parts}
 use Rattle.layout.proofs.Stored.{range-parts}
-use Rattle.layout.proofs.Models.{used-length, model-sound, sound-word}
+use Rattle.layout.proofs.Models.{sound-word}
 use Rattle.arena.specs.Places.{InRange, Neat}
-use Rattle.cuts.specs.Cuts.{Readable}
 use Rattle.changes.specs.Frame.{Loadable}
 
 -- ---- its words are neat
@@ -35,13 +34,3 @@ module _ (h : Head) (m u : List ℕ) (ok : soundOf h m u ≡ true) where
   sound-loads =
       let s = sound-parts h m u ok in
       record { words = s .words; items = s .items; walk = s .walk; neat = λ n l. ok-neat u (h .units) (getD m n 0) (s .used) (sound-word h m u s n l) }
-
-  pub used-is : h .units ≡ length (take (h .units) u)
-  used-is = sym (used-length h m u (sound-parts h m u ok))
-
-  -- ---- whether an index cuts a pair can be read
-  pub sound-reads : Readable h m (take (h .units) u)
-  sound-reads =
-      let s = sound-parts h m u ok in
-      let k = model-sound h m u s in
-      record { few = omega (arith, s .words, s .items); low = s .items; walk = s .walk; fit = k .list .fit; pairs = k .pairs }

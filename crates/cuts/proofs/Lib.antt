@@ -1,3 +1,4 @@
 pub mod Seams
 pub mod Falls
 pub mod Bare
+pub mod Sounds

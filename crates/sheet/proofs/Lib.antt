@@ -1,3 +1,2 @@
 pub mod Inserts
-pub mod Ranges
 pub mod Theorems

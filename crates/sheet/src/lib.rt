@@ -1,5 +1,4 @@
 // A sheet's calls: every refusal, and all or nothing.
-mod faults; // the refusals that only read
 mod append; // new units
 pub mod insert; // text and embeds
 pub mod range; // a range formatted or removed

@@ -5,7 +5,7 @@ ghost use Rattle.units.specs.Surrogates.{paired, splitsPair};
 ghost use Rattle.rules.specs.Calls.{badRange};
 ghost use Rattle.rules.specs.Rulings.{seen};
 ghost use Rattle.layout.specs.Memory.{soundOf, modelOf};
-ghost use Rattle.sheet.specs.Ranges.{removalFault};
+ghost use Rattle.faults.specs.Ranges.{removalFault};
 use cuts::cuts_pair;
 use items::visible_len;
 use layout::head::Head;
@@ -19,7 +19,7 @@ fn in_pair(h: Head, items: &[u64], units: &[u16], index: u64) -> bool
     cuts_pair(h, items, &units[..used], index)
 }
 
-pub(crate) fn embed_fault(h: Head, items: &[u64], units: &[u16], index: u32) -> u32
+pub fn embed_fault(h: Head, items: &[u64], units: &[u16], index: u32) -> u32
     requires { ⌜ soundOf h (now items) (now units) ≡ true ⌝ }
     ensures { λ r. ⌜ r ≡ cond (splitsPair (seen (modelOf h (now (items .entry)) (now (units .entry)))) index) 2 0 ⌝ }
 {
@@ -29,7 +29,7 @@ pub(crate) fn embed_fault(h: Head, items: &[u64], units: &[u16], index: u32) -> 
     0
 }
 
-pub(crate) fn text_fault(h: Head, items: &[u64], units: &[u16], index: u32, chunk: &[u16]) -> u32
+pub fn text_fault(h: Head, items: &[u64], units: &[u16], index: u32, chunk: &[u16]) -> u32
     requires { ⌜ soundOf h (now items) (now units) ≡ true ⌝ }
     ensures { λ r. ⌜ r ≡ cond (not (paired (now (chunk .entry)))) 3 (cond (splitsPair (seen (modelOf h (now (items .entry)) (now (units .entry)))) index) 2 0) ⌝ }
 {
@@ -40,7 +40,7 @@ pub(crate) fn text_fault(h: Head, items: &[u64], units: &[u16], index: u32, chun
 }
 
 // The end of a range lies in the text too, or past it.
-pub(crate) fn range_fault(h: Head, items: &[u64], units: &[u16], index: u32, len: u32) -> u32
+pub fn range_fault(h: Head, items: &[u64], units: &[u16], index: u32, len: u32) -> u32
     requires { ⌜ soundOf h (now items) (now units) ≡ true ⌝ }
     ensures { λ r. ⌜ r ≡ cond (badRange (seen (modelOf h (now (items .entry)) (now (units .entry)))) index len) 2 0 ⌝ }
 {
@@ -54,7 +54,7 @@ pub(crate) fn range_fault(h: Head, items: &[u64], units: &[u16], index: u32, len
     0
 }
 
-pub(crate) fn removal_fault(h: Head, items: &[u64], units: &[u16], index: u32, n: u32) -> u32
+pub fn removal_fault(h: Head, items: &[u64], units: &[u16], index: u32, n: u32) -> u32
     requires { ⌜ soundOf h (now items) (now units) ≡ true ⌝ }
     ensures { λ r. ⌜ r ≡ removalFault (seen (modelOf h (now (items .entry)) (now (units .entry)))) index n ⌝ }
 {

@@ -1,8 +1,8 @@
 -- `sheet::faults::embed_fault` meets its contract. Assumes nothing.
 use mathlib.Core.Path.{sym, _∙_}
 use borrow.Author.Needs.{needs}
-use Rattle.sheet.proofs.faults.embed_fault.Statement.{statement}
-use Rattle.sheet.proofs.faults.embed_fault.Tie as tie
+use Rattle.faults.proofs.embed_fault.Statement.{statement}
+use Rattle.faults.proofs.embed_fault.Tie as tie
 
 in-pair-requires : tie.Need-in-pair-requires
 in-pair-requires c κs = search needs

@@ -2,8 +2,8 @@
 use mathlib.Core.Path.{sym, _∙_}
 use borrow.Author.Tests.{not-false}
 use borrow.Author.Needs.{needs}
-use Rattle.sheet.proofs.faults.text_fault.Statement.{statement}
-use Rattle.sheet.proofs.faults.text_fault.Tie as tie
+use Rattle.faults.proofs.text_fault.Statement.{statement}
+use Rattle.faults.proofs.text_fault.Tie as tie
 
 is-whole-requires : tie.Need-is-whole-requires
 is-whole-requires c κs = search needs

@@ -5,10 +5,10 @@ use Prim.Native.Nat.{ℕ}
 use denote.Ref.{now}
 use Rattle.rules.specs.Rulings.{seen}
 use Rattle.layout.specs.Memory.{modelOf}
-use Rattle.sheet.proofs.Ranges.{length-is, fault-pair, fault-zero, fault-short, fault-none}
+use Rattle.faults.proofs.Ranges.{length-is, fault-pair, fault-zero, fault-short, fault-none}
 use borrow.Author.Needs.{needs}
-use Rattle.sheet.proofs.faults.removal_fault.Statement.{statement}
-use Rattle.sheet.proofs.faults.removal_fault.Tie as tie
+use Rattle.faults.proofs.removal_fault.Statement.{statement}
+use Rattle.faults.proofs.removal_fault.Tie as tie
 
 abbrev text : tie.Start → List ℕ
 text s = seen (modelOf (s .args .h) (now (s .args .items)) (now (s .args .units)))

@@ -1,8 +1,8 @@
 -- `sheet::faults::in_pair` meets its contract. Assumes nothing.
-use Rattle.changes.proofs.Sounds.{used-is, sound-reads}
+use Rattle.cuts.proofs.Sounds.{used-is, sound-reads}
 use borrow.Author.Needs.{needs}
-use Rattle.sheet.proofs.faults.in_pair.Statement.{statement}
-use Rattle.sheet.proofs.faults.in_pair.Tie as tie
+use Rattle.faults.proofs.in_pair.Statement.{statement}
+use Rattle.faults.proofs.in_pair.Tie as tie
 
 cast-used : tie.Need-cast-used
 cast-used c = search needs

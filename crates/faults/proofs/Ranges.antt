@@ -13,7 +13,7 @@ use Rattle.rules.specs.Rulings.{Ruling, seen, asIs, ruling}
 use Rattle.laws.proofs.Shows.{length-seen}
 use Rattle.layout.specs.declared.head.Head.{Head}
 use Rattle.layout.specs.Memory.{listOf, modelOf}
-use Rattle.sheet.specs.Ranges.{removalFault}
+use Rattle.faults.specs.Ranges.{removalFault}
 
 -- the length that is read is the rules'
 pub length-is : (h : Head) (m u : List ℕ) (n : ℕ) → n ≡ visible (listOf h m) → n ≡ length (seen (modelOf h m u))
