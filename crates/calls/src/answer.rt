@@ -5,6 +5,7 @@ use crate::say::say_attrs;
 use crate::say::say_number;
 use crate::say::say_units;
 use attrs::Attrs;
+use cursors::run::Run;
 use encoding::Found;
 use encoding::op_at;
 use layout::head::Head;
@@ -13,7 +14,6 @@ use layout::word::Item;
 use layout::word::unpack;
 use ops::delta::Inserted;
 use ops::delta::Op;
-use runs::run::Run;
 
 fn say_len(h: Head, items: &[u64], units: &[u16]) {
     say(b"len ");

@@ -15,9 +15,9 @@ use Rattle.rules.specs.Runs.{Chunk, words, object, Run as Stretch, runs, isText
 use Rattle.laws.proofs.Lists.{In, here, there, map-append}
 use Rattle.laws.proofs.Cuts.{glyphsIn, in-cells}
 use Rattle.laws.proofs.Runs.{runCells, runs-cells, joined-cells, Maximal, none-left, one-left, apart, joined-maximal, apart-differ}
-use Rattle.runs.specs.declared.run.Run.{Run}
+use Rattle.cursors.specs.declared.run.Run.{Run}
 use Rattle.runs.specs.declared.calls.Count.{Count}
-use Rattle.runs.specs.Records.{lenOf, recordOf, recordsOf, runsBy}
+use Rattle.cursors.specs.Records.{lenOf, recordOf, recordsOf, runsBy}
 use Rattle.runs.specs.Answers.{recordsIn, answer, counted, Said, first, runAt}
 use Rattle.demands.specs.Steps.{State, sound, model}
 use Rattle.demands.specs.Written.{spelled, spelledCell}

@@ -24,8 +24,8 @@ use Rattle.laws.proofs.Lists.{In, here, there}
 use Rattle.laws.proofs.Cuts.{seen-live}
 use Rattle.laws.proofs.Told.{given-giving, given-keeps, given-drops, event-tells}
 use Rattle.items.specs.Calls.{lengthOf}
-use Rattle.runs.specs.declared.run.Run.{Run}
-use Rattle.runs.specs.Records.{lenOf, recordOf, recordsOf, runsBy}
+use Rattle.cursors.specs.declared.run.Run.{Run}
+use Rattle.cursors.specs.Records.{lenOf, recordOf, recordsOf, runsBy}
 use Rattle.events.specs.Told.{Ops}
 use Rattle.events.proofs.Events.{walkable}
 use Rattle.demands.specs.Steps.{State, sound, model}

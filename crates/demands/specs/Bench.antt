@@ -8,7 +8,7 @@ use Rattle.rules.specs.Reading.{Glyph, unit, thing, Op, insert, delete, retain}
 use Rattle.rules.specs.Calls.{Sheet, Call, insertText}
 use Rattle.rules.specs.PieceParts.{Attrs, pairs, Said, t, x, r, d, Says, holds, shows, leaves, long, plain, merged, tells, carries, counts, item, range, replays, answer, Piece, piece}
 use Rattle.items.specs.Calls.{lengthOf}
-use Rattle.runs.specs.declared.run.Run.{Run}
+use Rattle.cursors.specs.declared.run.Run.{Run}
 use Rattle.demands.specs.Steps.{State, freshState, model, does, after, numbers}
 use Rattle.demands.specs.Demands.{readEvent}
 use Rattle.demands.specs.Listing.{allRuns, runGlyphs, visibleOf}

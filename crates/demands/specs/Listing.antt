@@ -7,7 +7,7 @@ use lib.ListN.{length, take, drop}
 use Rattle.sets.specs.Sets.{keys, present}
 use Rattle.attrs.specs.Packed.{says, envOf}
 use Rattle.rules.specs.Reading.{Glyph, thing, Cell, paint, seenGlyphs}
-use Rattle.runs.specs.declared.run.Run.{Run}
+use Rattle.cursors.specs.declared.run.Run.{Run}
 use Rattle.runs.specs.Answers.{counted, runAt, nothing}
 use Rattle.demands.specs.Steps.{State, model}
 use Rattle.demands.specs.Written.{spelled, page}

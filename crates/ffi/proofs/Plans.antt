@@ -8,10 +8,10 @@ use lib.ListN.{length, take, length-map}
 use lib.Seq.{sets, length-take-le}
 use Rattle.layout.specs.declared.head.Head.{Head}
 use Rattle.layout.proofs.Soundness.{sound-parts}
-use Rattle.runs.specs.declared.run.Run.{Run}
+use Rattle.cursors.specs.declared.run.Run.{Run}
 use Rattle.runs.specs.declared.calls.Count.{Count}
-use Rattle.runs.specs.declared.cursor.Cursor.{Cursor}
-use Rattle.runs.specs.Cursors.{recordsAt, Stands, startOf}
+use Rattle.cursors.specs.declared.cursor.Cursor.{Cursor}
+use Rattle.cursors.specs.Cursors.{recordsAt, Stands, startOf}
 use Rattle.runs.specs.Answers.{recordsIn, planned}
 use Rattle.runs.proofs.Fills.{plan-some}
 use Rattle.runs.proofs.Tallies.{start-stands, start-records, planned-within}

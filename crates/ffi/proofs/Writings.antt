@@ -6,10 +6,10 @@ use mathlib.Core.Bool.{Bool, true, false, cond}
 use mathlib.Core.List.{List, [], _∷_}
 use lib.ListN.{length, take}
 use lib.Seq.{sets, length-sets}
-use Rattle.runs.specs.declared.run.Run.{Run}
-use Rattle.runs.specs.declared.cursor.Spot.{Spot}
-use Rattle.runs.specs.declared.cursor.Cursor.{Cursor}
-use Rattle.runs.specs.Cursors.{recordsAt, Stands, one, Next}
+use Rattle.cursors.specs.declared.run.Run.{Run}
+use Rattle.cursors.specs.declared.cursor.Spot.{Spot}
+use Rattle.cursors.specs.declared.cursor.Cursor.{Cursor}
+use Rattle.cursors.specs.Cursors.{recordsAt, Stands, one, Next}
 use Rattle.encoding.specs.Words.{wordsOf}
 use Rattle.events.proofs.Tellings.{sets-append}
 use Rattle.ffi.specs.Answers.{runOp, runsWords}

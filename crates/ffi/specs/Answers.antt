@@ -8,7 +8,7 @@ use lib.IntN.{ℤ, pos}
 use lib.ListN.{length, getD, take}
 use Rattle.items.specs.declared.Length.{Length}
 use Rattle.runs.specs.declared.calls.Count.{Count}
-use Rattle.runs.specs.declared.run.Run.{Run}
+use Rattle.cursors.specs.declared.run.Run.{Run}
 use Rattle.runs.specs.Answers.{Said}
 use Rattle.ops.specs.declared.delta.Inserted.the-variants.{Text, Embed}
 use Rattle.ops.specs.declared.delta.Op.the-variants.{Insert}

@@ -3,17 +3,17 @@ ghost use mathlib.Core.Path.{_≡_};
 ghost use Prim.Native.Nat.{_*_, _/_, _≤_};
 ghost use lib.ListN.{length, take};
 ghost use lib.Seq.{sets};
-ghost use Rattle.runs.specs.Cursors.{recordsAt, Stands};
+ghost use Rattle.cursors.specs.Cursors.{recordsAt, Stands};
 ghost use Rattle.runs.specs.Answers.{recordsIn, planned};
 ghost use Rattle.events.specs.Given.{atFront};
 ghost use Rattle.ffi.specs.Heads.{headOf};
 ghost use Rattle.ffi.specs.Answers.{countIn, runsWords};
 use crate::heads::head_of;
 use crate::reading::run_op;
+use cursors::cursor::Cursor;
+use cursors::cursor::next_run;
 use encoding::write_op;
 use runs::calls::plan;
-use runs::cursor::Cursor;
-use runs::cursor::next_run;
 
 // The next n runs. Each goes on where the one before it ended.
 fn write_runs(items: &[u64], joined: bool, from: Cursor, n: usize, ops: &mut [u32])

@@ -11,13 +11,13 @@ ghost use Rattle.ranges.specs.Texts.{Copied};
 ghost use Rattle.events.specs.Given.{given, atFront};
 ghost use Rattle.ffi.specs.Answers.{lengthIn, countIn, eventIn, runOp, saidWords};
 use crate::heads::head_of;
+use cursors::run::Run;
 use encoding::write_op;
 use layout::head::Head;
 use ops::delta::DeltaOp;
 use ops::delta::Inserted;
 use ops::delta::Op;
 use runs::calls::Found;
-use runs::run::Run;
 
 // The head of a sheet that holds nothing, whatever lies in its buffers.
 #[no_mangle]

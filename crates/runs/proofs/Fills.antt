@@ -9,10 +9,10 @@ use lib.Dec.{leb}
 use lib.ListN.{length, drop, set, length-drop}
 use Rattle.layout.specs.declared.head.Head.{Head}
 use Rattle.layout.specs.Memory.{soundOf}
-use Rattle.runs.specs.declared.run.Run.{Run}
+use Rattle.cursors.specs.declared.run.Run.{Run}
 use Rattle.runs.specs.declared.calls.Count.{Count}
-use Rattle.runs.specs.declared.cursor.Cursor.{Cursor}
-use Rattle.runs.specs.Cursors.{recordsAt, Stands, startOf, found, Next}
+use Rattle.cursors.specs.declared.cursor.Cursor.{Cursor}
+use Rattle.cursors.specs.Cursors.{recordsAt, Stands, startOf, found, Next}
 use Rattle.runs.specs.Answers.{written, recordsIn, answer, counted, planned}
 use Rattle.runs.proofs.Fronts.{next-is, written-more}
 use Rattle.runs.proofs.Tallies.{start-stands, start-records}

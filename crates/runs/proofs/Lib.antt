@@ -1,7 +1,3 @@
-pub mod Merges
-pub mod Forces
-pub mod Spots
-pub mod Opens
 pub mod Tallies
 pub mod Fronts
 pub mod Fills

@@ -16,13 +16,13 @@ use Rattle.layout.proofs.Links.{walks-parts}
 use Rattle.layout.proofs.Soundness.{sound-parts}
 use Rattle.layout.proofs.Models.{model-sound}
 use Rattle.items.proofs.Showing.{visible-room}
-use Rattle.runs.specs.declared.run.Run.{Run}
-use Rattle.runs.specs.declared.cursor.Cursor.{Cursor}
-use Rattle.runs.specs.Records.{blank, recordsOf, runsBy, records}
-use Rattle.runs.specs.Cursors.{recordsAt, Stands, startOf, found, Next, Tallied, Nth}
+use Rattle.cursors.specs.declared.run.Run.{Run}
+use Rattle.cursors.specs.declared.cursor.Cursor.{Cursor}
+use Rattle.cursors.specs.Records.{blank, recordsOf, runsBy, records}
+use Rattle.cursors.specs.Cursors.{recordsAt, Stands, startOf, found, Next, Tallied, Nth}
 use Rattle.runs.specs.Answers.{recordsIn, answer, counted, planned, first, runAt}
 use Rattle.runs.specs.declared.calls.Count.{Count}
-use Rattle.runs.proofs.Forces.{env-none, plain-none}
+use Rattle.cursors.proofs.Forces.{env-none, plain-none}
 
 -- ---- the start
 

@@ -6,12 +6,12 @@ use lib.Dec.{leb}
 use lib.ListN.{length, take, drop}
 use Rattle.layout.specs.declared.head.Head.{Head}
 use Rattle.layout.specs.Memory.{listOf, soundOf}
-use Rattle.runs.specs.declared.run.Run.{Run}
+use Rattle.cursors.specs.declared.run.Run.{Run}
 use Rattle.runs.specs.declared.calls.Count.{Count}
 use Rattle.runs.specs.declared.calls.Found.{Found}
 use Rattle.runs.specs.declared.calls.Found.the-variants.{Here, Nothing, Broken}
 use Rattle.runs.specs.declared.calls.RunAnswer.{RunAnswer}
-use Rattle.runs.specs.Records.{blank, records}
+use Rattle.cursors.specs.Records.{blank, records}
 
 -- The first n of a list over the first n places of another; what lies behind them stays.
 abbrev pub written : {A : Type 0} → List A → ℕ → List A → List A

@@ -5,7 +5,7 @@ use mathlib.Core.Bool.{Bool}
 use mathlib.Core.List.{List}
 use lib.ListN.{length}
 use Rattle.layout.specs.declared.head.Head.{Head}
-use Rattle.runs.specs.declared.run.Run.{Run}
+use Rattle.cursors.specs.declared.run.Run.{Run}
 use Rattle.runs.specs.declared.calls.Count.{Count}
 use Rattle.runs.specs.Answers.{written, recordsIn, planned}
 

@@ -1,4 +1,2 @@
-pub mod Records
-pub mod Cursors
 pub mod Answers
 pub mod Fills

@@ -1,11 +1,11 @@
 // How many runs a sheet has, and each by its number. `joined` merges neighbouring texts on which the same is in force.
-use crate::cursor::Cursor;
-use crate::cursor::next_run;
-use crate::run::Run;
+use cursors::cursor::Cursor;
+use cursors::cursor::next_run;
+use cursors::run::Run;
 use layout::head::Head;
 use soundness::sound;
 ghost use mathlib.Core.Path.{_≡_};
-ghost use Rattle.runs.specs.Cursors.{Stands, Tallied, Nth};
+ghost use Rattle.cursors.specs.Cursors.{Stands, Tallied, Nth};
 ghost use Rattle.runs.specs.Answers.{counted, planned, said, runAt};
 
 // A refusal number, 0 for none, and how many runs there are, or were written.

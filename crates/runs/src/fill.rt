@@ -1,9 +1,9 @@
 // A whole sheet fills a lent slice of run records.
 use crate::calls::Count;
 use crate::calls::plan;
-use crate::cursor::Cursor;
-use crate::cursor::next_run;
-use crate::run::Run;
+use cursors::cursor::Cursor;
+use cursors::cursor::next_run;
+use cursors::run::Run;
 use layout::head::Head;
 ghost use Rattle.runs.specs.Fills.{Filled, paged};
 ghost use mathlib.Core.Path.{_≡_};

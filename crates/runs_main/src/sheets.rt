@@ -1,9 +1,9 @@
 // Small sheets, and what is written of their runs.
+use cursors::run::Run;
 use layout::head::Head;
 use layout::word::Content;
 use layout::word::Item;
 use runs::calls::Found;
-use runs::run::Run;
 
 pub fn word(next: u32, content: Content, dead: bool) -> u64 {
     layout::word::pack(Item {

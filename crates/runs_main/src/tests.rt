@@ -11,8 +11,8 @@ use crate::sheets::text;
 use crate::sheets::tried;
 use crate::sheets::units;
 use crate::sheets::words_of;
+use cursors::run::Run;
 use layout::head::Head;
-use runs::run::Run;
 
 pub fn empty() {
     tried(

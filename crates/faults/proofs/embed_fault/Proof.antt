@@ -1,4 +1,4 @@
--- `sheet::faults::embed_fault` meets its contract. Assumes nothing.
+-- `faults::embed_fault` meets its contract. Assumes nothing.
 use mathlib.Core.Path.{sym, _∙_}
 use borrow.Author.Needs.{needs}
 use Rattle.faults.proofs.embed_fault.Statement.{statement}

@@ -1,4 +1,4 @@
--- `sheet::faults::in_pair` meets its contract. Assumes nothing.
+-- `faults::in_pair` meets its contract. Assumes nothing.
 use Rattle.cuts.proofs.Sounds.{used-is, sound-reads}
 use borrow.Author.Needs.{needs}
 use Rattle.faults.proofs.in_pair.Statement.{statement}

@@ -1,4 +1,4 @@
--- `sheet::faults::range_fault` meets its contract. Assumes nothing.
+-- `faults::range_fault` meets its contract. Assumes nothing.
 use mathlib.Core.Path.{sym, _∙_}
 use borrow.Author.Needs.{needs}
 use Rattle.faults.proofs.range_fault.Statement.{statement}

@@ -1,4 +1,4 @@
--- `sheet::faults::removal_fault` meets its contract. Assumes nothing.
+-- `faults::removal_fault` meets its contract. Assumes nothing.
 use native.Mathlib.Omega.{arith}
 use mathlib.Core.List.{List}
 use Prim.Native.Nat.{ℕ}

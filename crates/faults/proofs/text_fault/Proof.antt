@@ -1,4 +1,4 @@
--- `sheet::faults::text_fault` meets its contract. Assumes nothing.
+-- `faults::text_fault` meets its contract. Assumes nothing.
 use mathlib.Core.Path.{sym, _∙_}
 use borrow.Author.Tests.{not-false}
 use borrow.Author.Needs.{needs}

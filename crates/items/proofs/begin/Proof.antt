@@ -1,4 +1,4 @@
--- `items::calls::begin` meets its contract. Assumes nothing.
+-- `items::begin` meets its contract. Assumes nothing.
 use native.Mathlib.Omega.{arith}
 use mathlib.Core.Path.{sym, ap, _∙_}
 use borrow.Author.Tests.{not-true, not-false}

@@ -1,4 +1,4 @@
--- `items::calls::drop_flags` meets its contract. The invariant: the words below i are swept. Assumes nothing.
+-- `items::drop_flags` meets its contract. The invariant: the words below i are swept. Assumes nothing.
 use Prim.Native.Nat.{ℕ, _≤_, _<_, _-_}
 use native.Mathlib.Omega.{arith}
 use mathlib.Core.Path.{_≡_, refl, ap, _∙_}

@@ -1,4 +1,4 @@
--- `items::calls::len` meets its contract. Assumes nothing.
+-- `items::len` meets its contract. Assumes nothing.
 use mathlib.Core.Path.{sym, _∙_}
 use borrow.Author.Needs.{needs}
 use borrow.Author.Tests.{not-true, not-false}

@@ -1,4 +1,4 @@
--- `items::calls::text_of` meets its contract, by the cases of `Showing`. Assumes nothing.
+-- `items::text_of` meets its contract, by the cases of `Showing`. Assumes nothing.
 use native.Mathlib.Omega.{arith}
 use mathlib.Core.Path.{_≡_, sym, _∙_}
 use mathlib.Core.Bool.{true}

@@ -1,4 +1,4 @@
--- `items::calls::visible_len` meets its contract. The invariant: what was counted and the visible length of the rest are that of the whole. Assumes nothing.
+-- `items::visible_len` meets its contract. The invariant: what was counted and the visible length of the rest are that of the whole. Assumes nothing.
 use Prim.Native.Nat.{_≤_, _<_, _+_, _-_}
 use native.Mathlib.Omega.{arith}
 use mathlib.Core.Path.{_≡_, sym, _∙_}

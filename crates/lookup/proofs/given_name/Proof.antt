@@ -1,4 +1,4 @@
--- `table::show::given_name` meets its contract. Assumes nothing.
+-- `lookup::given_name` meets its contract. Assumes nothing.
 use mathlib.Core.Path.{sym, _∙_}
 use borrow.Author.Tests.{not-true, not-false}
 use borrow.Author.Needs.{needs}

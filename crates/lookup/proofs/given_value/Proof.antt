@@ -1,4 +1,4 @@
--- `table::show::given_value` meets its contract. Assumes nothing.
+-- `lookup::given_value` meets its contract. Assumes nothing.
 use mathlib.Core.Path.{sym, _∙_}
 use borrow.Author.Tests.{not-true, not-false, eq-eqb, ne-eqb}
 use borrow.Author.Needs.{needs}

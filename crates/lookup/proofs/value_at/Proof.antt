@@ -1,4 +1,4 @@
--- `table::show::value_at` meets its contract. Assumes nothing.
+-- `lookup::value_at` meets its contract. Assumes nothing.
 use native.Mathlib.Omega.{arith}
 use mathlib.Core.Path.{sym, _∙_}
 use mathlib.Core.Logic.{inl, inr}

@@ -1,4 +1,4 @@
--- `attrs::bit_at` meets its contract.
+-- `sets::bit_at` meets its contract.
 use Rattle.sets.proofs.Bits.{bit-is}
 use borrow.Author.Needs.{needs}
 use Rattle.sets.proofs.bit_at.Statement.{statement}

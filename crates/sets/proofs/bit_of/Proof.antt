@@ -1,4 +1,4 @@
--- `attrs::bit_of` meets its contract: 1 shifted by key is 2 ^ key, which is below 2 ^ 16.
+-- `sets::bit_of` meets its contract: 1 shifted by key is 2 ^ key, which is below 2 ^ 16.
 use mathlib.Core.Path.{_∙_}
 use borrow.Author.Needs.{needs}
 use native.Mathlib.Nat.{one-mul}

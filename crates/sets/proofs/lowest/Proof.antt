@@ -1,4 +1,4 @@
--- `attrs::lowest` meets its contract.
+-- `sets::lowest` meets its contract.
 use borrow.Author.Needs.{needs}
 use Rattle.sets.proofs.Keys.{keys-none, keys-next}
 use Rattle.sets.proofs.lowest.Statement.{statement}

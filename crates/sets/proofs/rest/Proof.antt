@@ -1,4 +1,4 @@
--- `attrs::rest` meets its contract.
+-- `sets::rest` meets its contract.
 use mathlib.Core.Path.{ap}
 use Prim.Native.Nat.{ℕ, _-_}
 use native.Mathlib.Omega.{arith}

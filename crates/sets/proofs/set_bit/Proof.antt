@@ -1,4 +1,4 @@
--- `attrs::set_bit` meets its contract.
+-- `sets::set_bit` meets its contract.
 use native.Mathlib.Omega.{arith}
 use borrow.Author.Needs.{needs}
 use Rattle.sets.proofs.Bits.{bit-set-lt, set-already, set-now}

@@ -1,4 +1,4 @@
--- `items::sound::content_ok` meets its contract. Assumes nothing.
+-- `soundness::content_ok` meets its contract. Assumes nothing.
 use borrow.Author.Tests.{lt-ltb, le-ltb}
 use Rattle.layout.specs.Memory.{whatOk}
 use borrow.Author.Needs.{needs}

@@ -1,4 +1,4 @@
--- `items::sound::flags_ok` meets its contract. Assumes nothing.
+-- `soundness::flags_ok` meets its contract. Assumes nothing.
 use mathlib.Core.Path.{sym, _∙_}
 use Rattle.layout.proofs.Soundness.{flags-way}
 use Rattle.soundness.proofs.flags_ok.Statement.{statement}

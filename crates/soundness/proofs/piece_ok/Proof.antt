@@ -1,4 +1,4 @@
--- `items::sound::piece_ok` meets its contract. Assumes nothing.
+-- `soundness::piece_ok` meets its contract. Assumes nothing.
 use Prim.Native.Nat.{_+_, _<_, _≤_}
 use native.Mathlib.Omega.{arith}
 use native.Mathlib.Nat.{add-sub-cancel-left}

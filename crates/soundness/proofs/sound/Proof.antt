@@ -1,4 +1,4 @@
--- `items::sound::sound` meets its contract. Assumes nothing.
+-- `soundness::sound` meets its contract. Assumes nothing.
 use Prim.Native.Nat.{_≤_}
 use native.Mathlib.Omega.{arith}
 use mathlib.Core.Path.{sym, _∙_}

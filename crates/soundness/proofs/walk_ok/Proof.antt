@@ -1,4 +1,4 @@
--- `items::sound::walk_ok` meets its contract. The invariant: what is left of the test here is the whole test. Assumes nothing.
+-- `soundness::walk_ok` meets its contract. The invariant: what is left of the test here is the whole test. Assumes nothing.
 use Prim.Native.Nat.{_≤_}
 use native.Mathlib.Omega.{arith}
 use mathlib.Core.Path.{_≡_, refl, sym, _∙_}

@@ -1,4 +1,4 @@
--- `items::sound::word_ok` meets its contract. Assumes nothing.
+-- `soundness::word_ok` meets its contract. Assumes nothing.
 use mathlib.Core.Path.{sym, _∙_}
 use borrow.Author.Tests.{not-true, not-false}
 use Rattle.layout.proofs.Soundness.{word-off, word-false, word-on}

@@ -1,4 +1,4 @@
--- `arena::copy` meets its contract. The invariant: the first i words are copied. Assumes nothing.
+-- `arena::copies::copy` meets its contract. The invariant: the first i words are copied. Assumes nothing.
 use Rattle.arena.proofs.Copied.{copied-suc}
 use Rattle.arena.specs.Writes.{copied}
 use denote.Ref.{now}

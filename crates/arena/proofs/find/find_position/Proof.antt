@@ -1,4 +1,4 @@
--- `arena::find_position` meets its contract. The invariant: what is left of the index, placed from where the walk stands, is the index placed from the start. Assumes nothing.
+-- `arena::find::find_position` meets its contract. The invariant: what is left of the index, placed from where the walk stands, is the index placed from the start. Assumes nothing.
 use Rattle.arena.proofs.Finds.{found-zero, found-end, found-past, found-cut, found-cuttable}
 use Rattle.arena.proofs.Steps.{start-stands, cut-more}
 use Rattle.arena.proofs.Standing.{right-lt}

@@ -1,4 +1,4 @@
--- `arena::cut` meets its contract: the two stores are those of `cutMem`. Assumes nothing.
+-- `arena::writes::cut` meets its contract: the two stores are those of `cutMem`. Assumes nothing.
 use Rattle.arena.specs.Writes.{cutMem}
 use mathlib.Core.Path.{refl}
 use borrow.Author.Needs.{needs}

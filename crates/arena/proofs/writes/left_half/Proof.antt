@@ -1,4 +1,4 @@
--- `arena::left_half` meets its contract. Assumes nothing.
+-- `arena::writes::left_half` meets its contract. Assumes nothing.
 use Rattle.arena.specs.Writes.{leftText}
 use mathlib.Core.Path.{sym, ap}
 use borrow.Author.Needs.{needs}

@@ -1,4 +1,4 @@
--- `arena::put` meets its contract. Assumes nothing.
+-- `arena::writes::put` meets its contract. Assumes nothing.
 use Rattle.arena.proofs.Steps.{put-carried, put-asks}
 use borrow.Author.Needs.{needs}
 use Rattle.arena.proofs.writes.put.Statement.{statement}

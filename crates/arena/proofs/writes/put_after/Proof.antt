@@ -1,4 +1,4 @@
--- `arena::put_after` meets its contract: the stores are those of `putMem`. Assumes nothing.
+-- `arena::writes::put_after` meets its contract: the stores are those of `putMem`. Assumes nothing.
 use Rattle.arena.specs.Writes.{frontMem, afterMem}
 use borrow.Author.Tests.{ne-eqb}
 use lib.ListN.{length-set}

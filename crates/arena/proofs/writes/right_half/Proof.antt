@@ -1,4 +1,4 @@
--- `arena::right_half` meets its contract. Assumes nothing.
+-- `arena::writes::right_half` meets its contract. Assumes nothing.
 use Rattle.arena.specs.Writes.{rightText}
 use mathlib.Core.Path.{sym, ap}
 use native.Mathlib.Omega.{arith}

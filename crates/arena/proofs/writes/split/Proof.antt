@@ -1,4 +1,4 @@
--- `arena::split` meets its contract. Assumes nothing.
+-- `arena::writes::split` meets its contract. Assumes nothing.
 use Rattle.arena.proofs.Steps.{split-carried, cut-asks}
 use borrow.Author.Needs.{needs}
 use Rattle.arena.proofs.writes.split.Statement.{statement}

@@ -1,4 +1,4 @@
--- `items::word::content_of` meets its contract: each `return` rewrites with the tests that led there. Assumes nothing.
+-- `layout::word::content_of` meets its contract: each `return` rewrites with the tests that led there. Assumes nothing.
 use borrow.Author.Tests.{ne-eqb}
 use borrow.Author.Needs.{needs}
 use Rattle.layout.proofs.word.content_of.Statement.{statement}

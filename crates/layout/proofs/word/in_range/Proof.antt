@@ -1,4 +1,4 @@
--- `items::word::in_range` meets its contract. Assumes nothing.
+-- `layout::word::in_range` meets its contract. Assumes nothing.
 use borrow.Author.Tests.{le-ltb, lt-ltb}
 use Rattle.layout.specs.Word.{inRange}
 use Rattle.layout.proofs.word.in_range.Statement.{statement}

@@ -1,4 +1,4 @@
--- `items::word::payload` meets its contract: each arm rewrites with its constructor. Assumes nothing.
+-- `layout::word::payload` meets its contract: each arm rewrites with its constructor. Assumes nothing.
 use mathlib.Core.Path.{sym, ap}
 use native.Mathlib.Omega.{arith}
 use Rattle.layout.specs.Word.{payloadOf}

@@ -1,4 +1,4 @@
--- `items::word::unpack` meets its contract. Assumes nothing.
+-- `layout::word::unpack` meets its contract. Assumes nothing.
 use borrow.Author.Needs.{needs}
 use Rattle.layout.proofs.word.unpack.Statement.{statement}
 use Rattle.layout.proofs.word.unpack.Tie as tie

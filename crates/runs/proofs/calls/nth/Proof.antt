@@ -6,7 +6,7 @@ use native.Mathlib.Omega.{arith}
 use mathlib.Core.Path.{_≡_, refl, sym, ap, _∙_}
 use lib.ListN.{drop}
 use borrow.Author.Tests.{not-true, not-false}
-use Rattle.runs.specs.Cursors.{Stands, found}
+use Rattle.cursors.specs.Cursors.{Stands, found}
 use Rattle.runs.proofs.Tallies.{drop-more, drop-none}
 
 abbrev Inv-loop : tie.InvT-loop

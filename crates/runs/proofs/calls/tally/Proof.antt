@@ -5,7 +5,7 @@ use Prim.Native.Nat.{_+_, _≤_}
 use native.Mathlib.Omega.{arith}
 use mathlib.Core.Path.{_≡_, ap}
 use lib.ListN.{length}
-use Rattle.runs.specs.Cursors.{Stands, found, one}
+use Rattle.cursors.specs.Cursors.{Stands, found, one}
 use Rattle.runs.proofs.Tallies.{tally-more, tally-none}
 
 abbrev Inv-loop : tie.InvT-loop

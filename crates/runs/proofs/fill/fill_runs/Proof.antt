@@ -51,9 +51,9 @@ use Rattle.layout.specs.declared.head.Head.{Head}
 use Rattle.layout.proofs.head.Head as He
 use Rattle.layout.proofs.head.Head.Laws as He′
 use Rattle.runs.specs.declared.calls.Count.{Count}
-use Rattle.runs.specs.declared.cursor.Cursor.{Cursor}
-use Rattle.runs.specs.declared.run.Run.{Run}
-use Rattle.runs.specs.Cursors.{Stands, startOf, Next}
+use Rattle.cursors.specs.declared.cursor.Cursor.{Cursor}
+use Rattle.cursors.specs.declared.run.Run.{Run}
+use Rattle.cursors.specs.Cursors.{Stands, startOf, Next}
 use Rattle.runs.specs.Answers.{written, recordsIn, planned}
 use Rattle.runs.proofs.Tallies.{planned-within}
 use Rattle.runs.proofs.Fronts.{length-written, written-none}
@@ -61,22 +61,22 @@ use Rattle.runs.proofs.Fills.{plan-most, Filling, filling-start, fillin
 use Rattle.runs.proofs.Steps.{tests}
 use Rattle.runs.proofs.calls.Count as Co
 use Rattle.runs.proofs.calls.Count.Laws as Co′
-use Rattle.runs.proofs.cursor.Cursor as Cu
-use Rattle.runs.proofs.cursor.Cursor.Laws as Cu′
-use Rattle.runs.proofs.run.Run as T
-use Rattle.runs.proofs.run.Run.Laws as T′
+use Rattle.cursors.proofs.cursor.Cursor as Cu
+use Rattle.cursors.proofs.cursor.Cursor.Laws as Cu′
+use Rattle.cursors.proofs.run.Run as T
+use Rattle.cursors.proofs.run.Run.Laws as T′
 use Rattle.runs.proofs.calls.plan as plan
 use Rattle.runs.proofs.calls.plan.Symbol as plan-def
 use Rattle.runs.proofs.calls.plan.Symbol.{name as #plan}
 use Rattle.runs.proofs.calls.plan.Met as plan-thm
-use Rattle.runs.proofs.cursor.Cursor.start as start
-use Rattle.runs.proofs.cursor.Cursor.start.Symbol as start-def
-use Rattle.runs.proofs.cursor.Cursor.start.Symbol.{name as #start}
-use Rattle.runs.proofs.cursor.Cursor.start.Met as start-thm
-use Rattle.runs.proofs.cursor.next_run as next-run
-use Rattle.runs.proofs.cursor.next_run.Symbol as next-run-def
-use Rattle.runs.proofs.cursor.next_run.Symbol.{name as #next-run}
-use Rattle.runs.proofs.cursor.next_run.Met as next-run-thm
+use Rattle.cursors.proofs.cursor.Cursor.start as start
+use Rattle.cursors.proofs.cursor.Cursor.start.Symbol as start-def
+use Rattle.cursors.proofs.cursor.Cursor.start.Symbol.{name as #start}
+use Rattle.cursors.proofs.cursor.Cursor.start.Met as start-thm
+use Rattle.cursors.proofs.cursor.next_run as next-run
+use Rattle.cursors.proofs.cursor.next_run.Symbol as next-run-def
+use Rattle.cursors.proofs.cursor.next_run.Symbol.{name as #next-run}
+use Rattle.cursors.proofs.cursor.next_run.Met as next-run-thm
 use Rattle.runs.proofs.fill.fill_runs.Key.{name as #fill-runs}
 use Rattle.runs.proofs.fill.fill_runs as fill-runs
 use Rattle.runs.proofs.fill.fill_runs.Statement as stated
@@ -393,5 +393,5 @@ fill-runs-spec 𝓤 H 𝓜 𝓖 𝓡 =
     (tables 𝓤 H 𝓜 𝓡 code.env .C) (tables 𝓤 H 𝓜 𝓡 code.env .Λ) #fill-runs code.function (code.unfolded 𝓤 H 𝓜 𝓡)
     (fill-runs-meets 𝓤 H (𝓖 .A) (givenOf 𝓤 H 𝓜 𝓖) (𝓜 .mem) (𝓡 .run) (tablesOf 𝓤 H 𝓜 (tables 𝓤 H 𝓜 𝓡 code.env))
     (cited 𝓤 H (Plan 𝓤 H (𝓖 .A) (𝓜 .mem) (𝓡 .run)) 𝓜 𝓡 code.env #plan plan-def.routine code.calls-runs·calls·plan (plan-thm.met 𝓤 H 𝓜 𝓖 𝓡))
-    (cited 𝓤 H (Start 𝓤 H (𝓖 .A) (𝓜 .mem) (𝓡 .run)) 𝓜 𝓡 code.env #start start-def.routine code.calls-runs·cursor·Cursor·start (start-thm.met 𝓤 H 𝓜 𝓖 𝓡))
-    (cited 𝓤 H (NextRun 𝓤 H (𝓖 .A) (𝓜 .mem) (𝓡 .run)) 𝓜 𝓡 code.env #next-run next-run-def.routine code.calls-runs·cursor·next-run (next-run-thm.met 𝓤 H 𝓜 𝓖 𝓡)))
+    (cited 𝓤 H (Start 𝓤 H (𝓖 .A) (𝓜 .mem) (𝓡 .run)) 𝓜 𝓡 code.env #start start-def.routine code.calls-cursors·cursor·Cursor·start (start-thm.met 𝓤 H 𝓜 𝓖 𝓡))
+    (cited 𝓤 H (NextRun 𝓤 H (𝓖 .A) (𝓜 .mem) (𝓡 .run)) 𝓜 𝓡 code.env #next-run next-run-def.routine code.calls-cursors·cursor·next-run (next-run-thm.met 𝓤 H 𝓜 𝓖 𝓡)))

@@ -50,15 +50,15 @@ use Rattle.layout.specs.declared.head.Head.{Head}
 use Rattle.layout.proofs.head.Head as He
 use Rattle.layout.proofs.head.Head.Laws as He′
 use Rattle.runs.specs.declared.calls.Count.{Count}
-use Rattle.runs.specs.declared.run.Run.{Run}
+use Rattle.cursors.specs.declared.run.Run.{Run}
 use Rattle.runs.specs.Answers.{written, recordsIn}
 use Rattle.runs.specs.Fills.{Filled, paged}
 use Rattle.runs.proofs.Steps.{big-lit}
 use Rattle.runs.proofs.Lent.{array-cells, cells-array}
 use Rattle.runs.proofs.calls.Count as Co
 use Rattle.runs.proofs.calls.Count.Laws as Co′
-use Rattle.runs.proofs.run.Run as T
-use Rattle.runs.proofs.run.Run.Laws as T′
+use Rattle.cursors.proofs.run.Run as T
+use Rattle.cursors.proofs.run.Run.Laws as T′
 use Rattle.runs.proofs.fill.fill_runs as fill
 use Rattle.runs.proofs.fill.fill_runs.Symbol as fill-def
 use Rattle.runs.proofs.fill.fill_runs.Symbol.{name as #fill-runs}

@@ -1,0 +1,4 @@
+pub mod Merges
+pub mod Forces
+pub mod Spots
+pub mod Opens
