@@ -13,7 +13,7 @@ use Rattle.rules.specs.Sheet.{Item}
 use Rattle.rules.specs.Reading.{live, Glyph, Cell, paint, cells, seenGlyphs}
 use Rattle.rules.specs.Runs.{Chunk, words, object, Run as Stretch, runs, isText, glyphsOf, joined}
 use Rattle.laws.proofs.Lists.{In, here, there, map-append}
-use Rattle.laws.proofs.Cuts.{glyphsIn, in-cells}
+use Rattle.laws.proofs.Cuts.{glyphsIn, in-cells, in-paint}
 use Rattle.laws.proofs.Runs.{runCells, runs-cells, joined-cells, Maximal, none-left, one-left, apart, joined-maximal, apart-differ}
 use Rattle.cursors.specs.declared.run.Run.{Run}
 use Rattle.runs.specs.declared.calls.Count.{Count}
@@ -55,13 +55,9 @@ abbrev pub allGlyphs : List Stretch → List Glyph
 allGlyphs [] = []
 allGlyphs (r ∷ rs) = glyphsOf (r .chunk) ++ allGlyphs rs
 
-paint-glyphs : (v : ℕ) (gs : List Glyph) (cs : List Cell) → glyphsIn (paint v gs ++ cs) ≡ gs ++ glyphsIn cs
-paint-glyphs v [] cs = refl
-paint-glyphs v (g ∷ gs) cs = ap (λ (x : List Glyph). g ∷ x) (paint-glyphs v gs cs)
-
 cells-glyphs : (j : ℕ) (rs : List Stretch) → glyphsIn (runCells j rs) ≡ allGlyphs rs
 cells-glyphs j [] = refl
-cells-glyphs j (r ∷ rs) = paint-glyphs (r .force j) (glyphsOf (r .chunk)) (runCells j rs) ∙ ap (λ (x : List Glyph). glyphsOf (r .chunk) ++ x) (cells-glyphs j rs)
+cells-glyphs j (r ∷ rs) = in-paint (r .force j) (glyphsOf (r .chunk)) (runCells j rs) ∙ ap (λ (x : List Glyph). glyphsOf (r .chunk) ++ x) (cells-glyphs j rs)
 
 len-glyphs : (c : Chunk) → length (glyphsOf c) ≡ lenOf c
 len-glyphs (words gs) = refl

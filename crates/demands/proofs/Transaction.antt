@@ -3,15 +3,15 @@ use Prim.Native.Nat.{ℕ, _≤_, _<_}
 use native.Mathlib.Omega.{arith}
 use mathlib.Core.Path.{_≡_, refl, sym, ap, subst, _∙_}
 use mathlib.Core.Bool.{Bool, true, false, cond}
-use mathlib.Core.List.{List, [], _∷_, map}
+use mathlib.Core.List.{List, _∷_, map}
 use lib.ListN.{length, getD, drop}
 use Rattle.rules.specs.Reading.{live, before, cells, seenGlyphs, read}
 use Rattle.rules.specs.Event.{event, toldUnits}
 use Rattle.rules.specs.Scripts.{Tells}
-use Rattle.rules.specs.Calls.{Sheet, Call, beginNow, call}
+use Rattle.rules.specs.Calls.{Sheet, beginNow, call}
 use Rattle.rules.specs.Rulings.{SoundSheet}
 use Rattle.rules.specs.PieceParts.{after as ruledAfter}
-use Rattle.laws.proofs.Transaction.{Edits, FineCalls, transaction, transaction-tells}
+use Rattle.laws.proofs.Transaction.{Edits, FineCalls, edits-fine, transaction, transaction-tells}
 use Rattle.layout.proofs.Soundness.{sound-parts}
 use Rattle.layout.proofs.Models.{model-sound}
 use Rattle.sheet.proofs.Theorems.{leaves-sound}
@@ -71,10 +71,6 @@ module _ (k : State) (ok : sound k ≡ true) (w o : List ℕ) where
       (λ e. absurd (omega arith))
 
 -- ---- the transaction
-edits-fine : (cs : List Call) → Edits cs → FineCalls cs
-edits-fine [] d = tt
-edits-fine (c ∷ cs) d = (d .1, edits-fine cs (d .2))
-
 module _ (s : State) (ok : sound s ≡ true) (ts : List Step) (d : Edits (callsOf ts)) where
   abbrev end : State
   end = after ts (begun s)

@@ -20,7 +20,7 @@ use Rattle.assembling.specs.Steps.{wasBy, isBy}
 use Rattle.events.specs.Told.{Ops, unitsFor, texts}
 use Rattle.events.specs.Walks.{Walkable, pieceBy, givenBy}
 use Rattle.events.proofs.Tellings.{sets-append}
-use Rattle.events.proofs.Turns.{in-units}
+use Rattle.laws.proofs.Fits.{in-units}
 use Rattle.events.proofs.Going.{fit-more, fit-parts}
 
 -- ---- a script's units

@@ -9,6 +9,7 @@ use Rattle.sets.specs.Sets.{absent, is, Set, Env, asSet}
 use Rattle.attrs.specs.Packed.{packed}
 use Rattle.rules.specs.Reading.{Glyph, unit, thing, unitsOf, insert, delete, retain}
 use Rattle.rules.specs.Event.{Run, idle, inserting, deleting, retaining, Asm, addOp, Step, goes, starts, growInsert, growDelete, growRetain, Change, stays, becomes, breaks, markStep, told, inUnits, toldUnits}
+use Rattle.laws.proofs.Fits.{in-append, in-units}
 use Rattle.ops.specs.declared.delta.Inserted.{Inserted}
 use Rattle.ops.specs.declared.delta.Inserted.the-variants.{Text, Embed}
 use Rattle.ops.specs.declared.delta.Op.the-variants.{Insert}
@@ -21,15 +22,6 @@ use Rattle.assembling.specs.Steps.{insertedBy, actionOp, growInsertBy, growDele
 use Rattle.events.specs.Told.{Ops, partOf, deltaOps, opsIn}
 
 -- ---- glyphs are counted
-
-in-append : (a b : List Glyph) → inUnits (a ++ b) ≡ inUnits a + inUnits b
-in-append [] b = omega arith
-in-append (unit p ∷ a) b = omega (arith, in-append a b)
-in-append (thing e ∷ a) b = in-append a b
-
-pub in-units : (s n : ℕ) → inUnits (unitsOf s n) ≡ n
-in-units s zero = refl
-in-units s (suc n) = ap suc (in-units (suc s) n)
 
 pub told-append : (a b : Ops) → toldUnits (a ++ b) ≡ toldUnits a + toldUnits b
 told-append [] b = omega arith

@@ -66,7 +66,7 @@ abbrev pub glyphsIn : List Cell → List Glyph
 glyphsIn [] = []
 glyphsIn (c ∷ cs) = c .glyph ∷ glyphsIn cs
 
-in-paint : (v : ℕ) (gs : List Glyph) (cs : List Cell) → glyphsIn (paint v gs ++ cs) ≡ gs ++ glyphsIn cs
+pub in-paint : (v : ℕ) (gs : List Glyph) (cs : List Cell) → glyphsIn (paint v gs ++ cs) ≡ gs ++ glyphsIn cs
 in-paint v [] cs = refl
 in-paint v (g ∷ gs) cs = ap (λ (x : List Glyph). g ∷ x) (in-paint v gs cs)
 

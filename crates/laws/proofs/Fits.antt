@@ -15,12 +15,12 @@ use Rattle.rules.specs.Scripts.{seenBy, given}
 use Rattle.laws.proofs.Script.{event-length}
 use Rattle.laws.proofs.Told.{given-giving, given-keeps, given-drops, event-tells}
 
-in-append : (a b : List Glyph) → inUnits (a ++ b) ≡ inUnits a + inUnits b
+pub in-append : (a b : List Glyph) → inUnits (a ++ b) ≡ inUnits a + inUnits b
 in-append [] b = sym (zero-add (inUnits b))
 in-append (unit p ∷ a) b = ap suc (in-append a b) ∙ sym (suc-add (inUnits a) (inUnits b))
 in-append (thing e ∷ a) b = in-append a b
 
-in-units : (s n : ℕ) → inUnits (unitsOf s n) ≡ n
+pub in-units : (s n : ℕ) → inUnits (unitsOf s n) ≡ n
 in-units s zero = refl
 in-units s (suc n) = ap suc (in-units (suc s) n)
 

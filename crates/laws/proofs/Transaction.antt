@@ -37,7 +37,7 @@ abbrev pub FineCalls : List Call → Type 0
 FineCalls [] = Unit {0}
 FineCalls (c ∷ cs) = FineCall c × FineCalls cs
 
-edits-fine : (cs : List Call) → Edits cs → FineCalls cs
+pub edits-fine : (cs : List Call) → Edits cs → FineCalls cs
 edits-fine [] d = tt
 edits-fine (c ∷ cs) d = (d .1, edits-fine cs (d .2))
 

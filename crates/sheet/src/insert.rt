@@ -10,11 +10,11 @@ use crate::append::append_accepted;
 use attrs::Attrs;
 use changes::change::Change;
 use changes::frame::edit;
-use faults::embed_fault;
-use faults::text_fault;
 use items::Answer;
 use layout::head::Head;
 use layout::word::Content;
+use refusals::embed_fault;
+use refusals::text_fault;
 use soundness::sound;
 
 fn text_change(plain: bool, start: u32, len: u32) -> Change

@@ -7,10 +7,10 @@ ghost use Rattle.changes.specs.Frame.{leaving};
 use attrs::Attrs;
 use changes::change::Change;
 use changes::frame::edit;
-use faults::range_fault;
-use faults::removal_fault;
 use items::Answer;
 use layout::head::Head;
+use refusals::range_fault;
+use refusals::removal_fault;
 use soundness::sound;
 
 // A length past the end formats to the end.

@@ -1,6 +1,5 @@
 -- `deltas::apply::delta_fault` meets its contract. Assumes nothing.
-use Rattle.cuts.proofs.Sounds.{used-is, sound-reads}
-use Rattle.faults.proofs.Ranges.{length-is}
+use Rattle.cuts.proofs.Sounds.{used-is, sound-reads, length-is}
 use Rattle.deltas.proofs.Reading.{many-none}
 use borrow.Author.Needs.{needs}
 use denote.Ref.{now}

@@ -8,7 +8,7 @@ use Rattle.layout.specs.Memory.{soundOf}
 use Rattle.changes.specs.Changes.{moveOf}
 use Rattle.changes.proofs.Sounds.{sound-loads}
 use Rattle.changes.proofs.Calls.{carry-unsound, carry-faulty, carry-quiet, carry-edited}
-use Rattle.faults.proofs.Ranges.{remove-quiet, remove-ruled}
+use Rattle.refusals.proofs.Ranges.{remove-quiet, remove-ruled}
 use borrow.Author.Needs.{needs}
 use Rattle.sheet.proofs.range.remove_range.Statement.{statement}
 use Rattle.sheet.proofs.range.remove_range.Tie as tie

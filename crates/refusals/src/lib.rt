@@ -5,7 +5,7 @@ ghost use Rattle.units.specs.Surrogates.{paired, splitsPair};
 ghost use Rattle.rules.specs.Calls.{badRange};
 ghost use Rattle.rules.specs.Rulings.{seen};
 ghost use Rattle.layout.specs.Memory.{soundOf, modelOf};
-ghost use Rattle.faults.specs.Ranges.{removalFault};
+ghost use Rattle.refusals.specs.Ranges.{removalFault};
 use cuts::cuts_pair;
 use items::visible_len;
 use layout::head::Head;

@@ -1,14 +1,15 @@
--- `faults::removal_fault` meets its contract. Assumes nothing.
+-- `refusals::removal_fault` meets its contract. Assumes nothing.
 use native.Mathlib.Omega.{arith}
 use mathlib.Core.List.{List}
 use Prim.Native.Nat.{ℕ}
 use denote.Ref.{now}
 use Rattle.rules.specs.Rulings.{seen}
 use Rattle.layout.specs.Memory.{modelOf}
-use Rattle.faults.proofs.Ranges.{length-is, fault-pair, fault-zero, fault-short, fault-none}
+use Rattle.cuts.proofs.Sounds.{length-is}
+use Rattle.refusals.proofs.Ranges.{fault-pair, fault-zero, fault-short, fault-none}
 use borrow.Author.Needs.{needs}
-use Rattle.faults.proofs.removal_fault.Statement.{statement}
-use Rattle.faults.proofs.removal_fault.Tie as tie
+use Rattle.refusals.proofs.removal_fault.Statement.{statement}
+use Rattle.refusals.proofs.removal_fault.Tie as tie
 
 abbrev text : tie.Start → List ℕ
 text s = seen (modelOf (s .args .h) (now (s .args .items)) (now (s .args .units)))

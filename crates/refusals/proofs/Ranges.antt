@@ -6,18 +6,10 @@ use mathlib.Core.Bool.{Bool, true, false, cond}
 use mathlib.Core.List.{List}
 use lib.ListN.{length}
 use borrow.Author.Tests.{lt-ltb, le-ltb}
-use Rattle.rules.specs.Reading.{visible}
 use Rattle.rules.specs.Edits.{byIndex, removeHere}
 use Rattle.rules.specs.Calls.{Sheet, badRange, tooLong, removeRange}
 use Rattle.rules.specs.Rulings.{Ruling, seen, asIs, ruling}
-use Rattle.laws.proofs.Shows.{length-seen}
-use Rattle.layout.specs.declared.head.Head.{Head}
-use Rattle.layout.specs.Memory.{listOf, modelOf}
-use Rattle.faults.specs.Ranges.{removalFault}
-
--- the length that is read is the rules'
-pub length-is : (h : Head) (m u : List ℕ) (n : ℕ) → n ≡ visible (listOf h m) → n ≡ length (seen (modelOf h m u))
-length-is h m u n e = e ∙ sym (length-seen (modelOf h m u))
+use Rattle.refusals.specs.Ranges.{removalFault}
 
 module _ (us : List ℕ) (i n f : ℕ) (e : f ≡ cond (badRange us i n) 2 0) where
   pub fault-pair : (f ≡ 0 → ⊥) → f ≡ removalFault us i n

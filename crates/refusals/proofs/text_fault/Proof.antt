@@ -1,9 +1,9 @@
--- `faults::text_fault` meets its contract. Assumes nothing.
+-- `refusals::text_fault` meets its contract. Assumes nothing.
 use mathlib.Core.Path.{sym, _∙_}
 use borrow.Author.Tests.{not-false}
 use borrow.Author.Needs.{needs}
-use Rattle.faults.proofs.text_fault.Statement.{statement}
-use Rattle.faults.proofs.text_fault.Tie as tie
+use Rattle.refusals.proofs.text_fault.Statement.{statement}
+use Rattle.refusals.proofs.text_fault.Tie as tie
 
 is-whole-requires : tie.Need-is-whole-requires
 is-whole-requires c κs = search needs

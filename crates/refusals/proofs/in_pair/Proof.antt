@@ -1,8 +1,8 @@
--- `faults::in_pair` meets its contract. Assumes nothing.
+-- `refusals::in_pair` meets its contract. Assumes nothing.
 use Rattle.cuts.proofs.Sounds.{used-is, sound-reads}
 use borrow.Author.Needs.{needs}
-use Rattle.faults.proofs.in_pair.Statement.{statement}
-use Rattle.faults.proofs.in_pair.Tie as tie
+use Rattle.refusals.proofs.in_pair.Statement.{statement}
+use Rattle.refusals.proofs.in_pair.Tie as tie
 
 cast-used : tie.Need-cast-used
 cast-used c = search needs

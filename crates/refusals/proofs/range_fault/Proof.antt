@@ -1,8 +1,8 @@
--- `faults::range_fault` meets its contract. Assumes nothing.
+-- `refusals::range_fault` meets its contract. Assumes nothing.
 use mathlib.Core.Path.{sym, _∙_}
 use borrow.Author.Needs.{needs}
-use Rattle.faults.proofs.range_fault.Statement.{statement}
-use Rattle.faults.proofs.range_fault.Tie as tie
+use Rattle.refusals.proofs.range_fault.Statement.{statement}
+use Rattle.refusals.proofs.range_fault.Tie as tie
 
 in-pair-requires : tie.Need-in-pair-requires
 in-pair-requires c κs = search needs
