@@ -31,6 +31,14 @@ pub and-no-right : (a b : Bool) → b ≡ false → (a && b) ≡ false
 and-no-right true b e = e
 and-no-right false b e = refl
 
+pub or-first : (a b r : Bool) → r ≡ a → r ≡ true → r ≡ (a || b)
+or-first true b r e f = f
+or-first false b r e f = absurd (false≢true (sym e ∙ f))
+
+pub or-second : (a b r s : Bool) → r ≡ a → r ≡ false → s ≡ b → s ≡ (a || b)
+or-second true b r s e f g = absurd (false≢true (sym f ∙ e))
+or-second false b r s e f g = g
+
 -- ---- ranges
 pub high-in : (u : ℕ) → 0xD800 ≤ u → u < 0xDC00 → isHigh u ≡ true
 high-in u h k = both _ _ (le-leb 0xD800 u h) (lt-ltb u 0xDC00 k)
@@ -105,20 +113,6 @@ low-by-kind u = go (isHigh u) (isLow u) (high-not-low u)
     go true l f = f refl
     go false true f = refl
     go false false f = refl
-
-abbrev pub halfKind : Kind → ℕ
-halfKind Plain = 0
-halfKind High = 1
-halfKind Low = 1
-
-pub half-by-kind : (u : ℕ) → halfOf u ≡ halfKind (kindOf u)
-unfolding kindOf
-half-by-kind u = go (isHigh u) (isLow u)
-  where
-    go : (h l : Bool) → _≡_ {A = ℕ} (cond (h || l) 1 0) (halfKind (cond h High (cond l Low Plain)))
-    go true l = refl
-    go false true = refl
-    go false false = refl
 
 -- no half at all
 pub half-none : (u : ℕ) → halfOf u ≡ 0 → (isHigh u ≡ false) × (isLow u ≡ false)

@@ -1,9 +1,9 @@
 // UTF-16 units: which are halves of a surrogate pair, whether a text is whole, and whether an index cuts a pair.
 ghost use mathlib.Core.Path.{_≡_};
-ghost use Prim.Native.Nat.{_≤_};
+ghost use mathlib.Core.Bool.{_||_};
 ghost use lib.Dec.{eqb};
 ghost use Rattle.units.specs.Kinds.{kindOf};
-ghost use Rattle.units.specs.Surrogates.{isHigh, isLow, paired, splitsPair, halfOf, halves};
+ghost use Rattle.units.specs.Surrogates.{isHigh, isLow, paired, splitsPair, halves};
 
 pub enum Kind {
     Plain,
@@ -62,28 +62,25 @@ pub fn is_whole(units: &[u16]) -> bool
     !held
 }
 
-fn half(unit: u16) -> usize
-    ensures { λ r. ⌜ (r ≡ halfOf unit) × (r ≤ 1) ⌝ }
+fn is_half(unit: u16) -> bool
+    ensures { λ r. ⌜ r ≡ (isHigh unit || isLow unit) ⌝ }
 {
-    let kind = Kind::of(unit);
-    match kind {
-        Kind::Plain => 0,
-        Kind::High => 1,
-        Kind::Low => 1,
-    }
+    is_high(unit) || is_low(unit)
 }
 
-// No surrogate at all, so that every part is whole. It counts with no early end, which a processor does several units at a time.
+// No surrogate at all, so that every part is whole. It looks at each unit, with no early end, which a processor does several at a time.
 pub fn is_plain(units: &[u16]) -> bool
     ensures { λ r. ⌜ r ≡ eqb (halves (now (units .entry))) 0 ⌝ }
 {
-    let mut n = 0;
+    let mut plain = true;
     let mut i = 0;
     while i < units.len() {
-        n += half(units[i]);
+        if is_half(units[i]) {
+            plain = false;
+        }
         i += 1;
     }
-    n == 0
+    plain
 }
 
 // Whether `index` falls between the two halves of a pair of `units`; at the ends and past them it does not.

@@ -1,35 +1,31 @@
--- `units::is_plain` meets its contract. The invariant: the halves counted and those of the rest are all of them. Assumes nothing.
-use Prim.Native.Nat.{ℕ, _≤_, _+_, _-_}
+-- `units::is_plain` meets its contract. The invariant: what is left to look at decides, unless a half was met. Assumes nothing.
+use Prim.Native.Nat.{_≤_, _-_}
 use native.Mathlib.Omega.{arith}
-use mathlib.Core.Path.{_≡_, ap}
+use mathlib.Core.Path.{refl, sym, _∙_}
+use mathlib.Core.Logic.{⊎-elim}
 use borrow.Author.Needs.{needs}
-use lib.Dec.{eqb}
-use lib.ListN.{length, drop}
-use Rattle.units.specs.Surrogates.{halves}
-use Rattle.units.proofs.Plain.{halves-at, halves-end}
+use lib.ListN.{length}
+use Rattle.units.proofs.Plain.{Looked, looked-half, looked-plain, looked-all}
 use Rattle.units.proofs.is_plain.Statement.{statement}
 use Rattle.units.proofs.is_plain.Tie as tie
 
 abbrev Inv-loop : tie.InvT-loop
-Inv-loop units n₀ i₀ n i = (i ≤ length units) × (n ≤ i) × (n + halves (drop i units) ≡ halves units)
+Inv-loop units plain₀ i₀ plain i = (i ≤ length units) × Looked units i plain
 
 abbrev μ-loop : tie.MeasureT-loop
-μ-loop units n₀ i₀ n i = length units - i
+μ-loop units plain₀ i₀ plain i = length units - i
 
 loop-holds : tie.Need-loop-holds Inv-loop μ-loop
-loop-holds c = (omega arith, omega arith, omega arith)
+loop-holds c = (omega arith, refl)
 
-mul-half : tie.Need-mul-half Inv-loop μ-loop
-mul-half c = omega arith
+mul-is-half : tie.Need-mul-is-half Inv-loop μ-loop
+mul-is-half c = omega arith
 
-shared-slice-read-half : tie.Need-shared-slice-read-half Inv-loop μ-loop
-shared-slice-read-half c = omega arith
+shared-slice-read-is-half : tie.Need-shared-slice-read-is-half Inv-loop μ-loop
+shared-slice-read-is-half c = omega arith
 
-half-requires : tie.Need-half-requires Inv-loop μ-loop
-half-requires c κs = search needs
-
-add-n : tie.Need-add-n Inv-loop μ-loop
-add-n c = omega (arith, c .half .ensures .1)
+is-half-requires : tie.Need-is-half-requires Inv-loop μ-loop
+is-half-requires c κs = search needs
 
 add-i : tie.Need-add-i Inv-loop μ-loop
 add-i c = omega arith
@@ -39,15 +35,15 @@ loop-less c = omega arith
 
 loop-again : tie.Need-loop-again Inv-loop μ-loop
 loop-again c =
-    let at-loop = c .before .before .before in
-    let here = halves-at (at-loop .before .before .args .units .now) (at-loop .loop .i) (c .before .before .loop-test .taken) in
-    (omega arith, omega (arith, c .half .ensures .1), omega (arith, here, c .half .ensures .0, at-loop .loop .inv .2))
+    let turn = c .before .before .before in
+    let us = turn .before .before .before .args .units .now in
+    let half = sym (c .before .is-half .ensures) in
+    let more = turn .loop-test .taken in
+    let at = turn .before .loop in
+    (omega arith, ⊎-elim (λ w. looked-half us (at .i) (at .plain) (at .inv .1) more _ (half ∙ w .0 .taken) (w .1)) (λ w. looked-plain us (at .i) (at .plain) (at .inv .1) more _ (half ∙ w .0 .left) (w .1)) (c .if1 .came))
 
 returns : tie.Need-returns Inv-loop μ-loop
-returns c =
-    let at-loop = c .before in
-    let all : at-loop .loop .n ≡ halves (at-loop .before .before .args .units .now) = omega (arith, halves-end (at-loop .before .before .args .units .now) (at-loop .loop .i) (c .loop-test .left), at-loop .loop .inv .2) in
-    ap (λ (k : ℕ). eqb k 0) all
+returns c = looked-all _ _ _ (c .before .loop .inv .1) (c .loop-test .left)
 
 pub is-plain-spec : {M : Type 1} → statement M
 is-plain-spec =
@@ -56,10 +52,9 @@ is-plain-spec =
     Inv-loop
     μ-loop
     loop-holds
-    mul-half
-    shared-slice-read-half
-    half-requires
-    add-n
+    mul-is-half
+    shared-slice-read-is-half
+    is-half-requires
     add-i
     loop-less
     loop-again
