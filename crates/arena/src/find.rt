@@ -1,8 +1,5 @@
 // The place at an index.
-ghost use mathlib.Core.Path.{_≡_};
 ghost use Prim.Native.Nat.{_<_};
-ghost use Rattle.rules.specs.Sheet.{width};
-ghost use Rattle.layout.specs.Word.{whatOf};
 ghost use Rattle.arena.specs.Places.{SIZE, Arena, Carried, startOf, placing};
 use crate::At;
 use crate::Place;
@@ -10,19 +7,7 @@ use crate::forward;
 use crate::writes::split;
 use items::shown_len;
 use layout::head::Head;
-use layout::word::Content;
 use layout::word::unpack;
-
-// How many units long.
-pub fn width(c: Content) -> u32
-    ensures { λ r. ⌜ r ≡ width (whatOf c) ⌝ }
-{
-    match c {
-        Content::Text { start: _, len } => len,
-        Content::Embed(_) => 1,
-        Content::Mark { key: _, value: _ } => 0,
-    }
-}
 
 // The place at an index, from the first item on. A text that the index ends in is split there.
 pub fn find_position(h: Head, items: &mut [u64], index: u32) -> At

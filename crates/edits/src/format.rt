@@ -3,14 +3,12 @@ ghost use mathlib.Core.Path.{_≡_};
 ghost use Prim.Native.Nat.{_+_, _/_, _<_, _≤_};
 ghost use lib.ListN.{length};
 ghost use Rattle.attrs.specs.Packed.{says};
-ghost use Rattle.rules.specs.Sheet.{isMark};
 ghost use Rattle.rules.specs.Edits.{closing, walking, format};
 ghost use Rattle.layout.specs.Word.{whatOf, unpackOf};
 ghost use Rattle.arena.specs.Places.{SIZE, Neat, Standing, Carried, Going};
 ghost use Rattle.edits.specs.Formats.{liveTurn, walksOver, turnOf, killedIf, leftAfter, rememberedAfter};
 use arena::At;
 use arena::Place;
-use arena::find::width;
 use arena::forward;
 use arena::writes::delete;
 use arena::writes::split;
@@ -18,7 +16,9 @@ use attrs::Attrs;
 use layout::head::Head;
 use layout::word::Content;
 use layout::word::Item;
+use layout::word::is_mark;
 use layout::word::unpack;
+use layout::word::width;
 use marks::insert_attributes;
 use marks::insert_negated_attributes;
 use marks::minimize_attr_changes;
@@ -33,16 +33,6 @@ const MARK: u32 = 2;
 const THROUGH: u32 = 3;
 
 const CUT: u32 = 4;
-
-fn is_mark(c: Content) -> bool
-    ensures { λ r. ⌜ r ≡ isMark (whatOf c) ⌝ }
-{
-    match c {
-        Content::Text { start: _, len: _ } => false,
-        Content::Embed(_) => false,
-        Content::Mark { key: _, value: _ } => true,
-    }
-}
 
 // A live item: a mark whose key the set has is deleted, what fits is gone through, and a longer text is cut.
 fn live_turn(c: Content, left: u32, attrs: Attrs) -> u32

@@ -4,6 +4,7 @@ use layout::word::Content;
 use layout::word::Item;
 use layout::word::pack;
 use layout::word::unpack;
+use layout::word::width;
 use soundness::sound;
 ghost use mathlib.Core.Path.{_≡_};
 ghost use mathlib.Core.Bool.{true};
@@ -73,11 +74,7 @@ pub fn shown_len(it: Item) -> u32
         return 0;
     }
     let c = it.content;
-    match c {
-        Content::Text { start: _, len } => len,
-        Content::Embed(_) => 1,
-        Content::Mark { key: _, value: _ } => 0,
-    }
+    width(c)
 }
 
 // How many units and embeds are visible, where the sheet is known to be sound.

@@ -1,7 +1,8 @@
 // An item and the word that holds it. The word is taken apart and put together here and nowhere else.
 ghost use mathlib.Core.Path.{_≡_};
 ghost use Prim.Native.Nat.{_<_, _≤_};
-ghost use Rattle.layout.specs.Word.{contentFrom, unpackOf, kindOf, payloadOf, flagOf, packOf, relinkOf, inRange};
+ghost use Rattle.rules.specs.Sheet.{width, isMark};
+ghost use Rattle.layout.specs.Word.{whatOf, contentFrom, unpackOf, kindOf, payloadOf, flagOf, packOf, relinkOf, inRange};
 
 pub enum Content {
     Text { start: u32, len: u32 },
@@ -16,6 +17,27 @@ pub struct Item {
     pub dead: bool,
     pub added: bool,
     pub gone: bool,
+}
+
+// How many units long.
+pub fn width(c: Content) -> u32
+    ensures { λ r. ⌜ r ≡ width (whatOf c) ⌝ }
+{
+    match c {
+        Content::Text { start: _, len } => len,
+        Content::Embed(_) => 1,
+        Content::Mark { key: _, value: _ } => 0,
+    }
+}
+
+pub fn is_mark(c: Content) -> bool
+    ensures { λ r. ⌜ r ≡ isMark (whatOf c) ⌝ }
+{
+    match c {
+        Content::Text { start: _, len: _ } => false,
+        Content::Embed(_) => false,
+        Content::Mark { key: _, value: _ } => true,
+    }
 }
 
 fn content_of(k: u64, p: u64) -> Content

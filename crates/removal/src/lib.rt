@@ -6,6 +6,7 @@ ghost use lib.ListN.{length};
 ghost use Rattle.attrs.specs.Packed.{envOf};
 ghost use Rattle.rules.specs.Sheet.{mark, isMark};
 ghost use Rattle.rules.specs.Edits.{idle, removeHere, deleteHere};
+ghost use Rattle.layout.specs.Word.{whatOf};
 ghost use Rattle.layout.specs.Chain.{itemFrom};
 ghost use Rattle.arena.specs.Places.{SIZE, Standing, Carried};
 ghost use Rattle.arena.specs.Writes.{killMem};
@@ -19,6 +20,8 @@ use attrs::Attrs;
 use items::shown_len;
 use layout::head::Head;
 use layout::word::Content;
+use layout::word::Item;
+use layout::word::is_mark;
 use layout::word::unpack;
 
 // A branch of its own, so that the walks go straight on.
@@ -62,16 +65,12 @@ fn delete_units(h: Head, items: &mut [u64], p: Place, len: u32) -> At
     At { head: h, place: at }
 }
 
-fn is_mark(w: u64) -> bool
-    ensures { λ r. ⌜ r ≡ isMark (itemFrom 0 (w / 4096) .what) ⌝ }
+// Whether what is right of an item, live or deleted, is in the same gap.
+fn stays_in_gap(it: Item) -> bool
+    ensures { λ r. ⌜ r ≡ isMark (whatOf (it .content)) ⌝ }
 {
-    let it = unpack(w);
     let c = it.content;
-    match c {
-        Content::Text { start: _, len: _ } => false,
-        Content::Embed(_) => false,
-        Content::Mark { key: _, value: _ } => true,
-    }
+    is_mark(c)
 }
 
 // The place before the next text or embed, live or deleted, or the list's end.
@@ -83,7 +82,8 @@ fn gap_end(h: Head, items: &[u64], p: Place) -> Place
     while at.todo > 0 {
         let right = at.right;
         let i = right as usize;
-        if !is_mark(items[i]) {
+        let it = unpack(items[i]);
+        if !stays_in_gap(it) {
             return at;
         }
         at = forward(items, at);

@@ -1,15 +1,17 @@
 -- `removal::gap_end` meets its contract: the end of the gap from here is the end from the start. Assumes nothing.
-use mathlib.Core.Path.{sym, _∙_}
+use mathlib.Core.Path.{_≡_, sym, _∙_}
 use native.Mathlib.Omega.{arith}
 use borrow.Author.Needs.{needs}
 use borrow.Author.Tests.{not-true, not-false}
 use denote.Ref.{now}
+use Rattle.rules.specs.Sheet.{isMark}
 use Rattle.layout.specs.declared.head.Head.{Head}
+use Rattle.layout.specs.Chain.{itemAt}
 use Rattle.arena.specs.Places.{Standing, Going}
 use Rattle.arena.proofs.Carried.{going-start}
 use Rattle.arena.proofs.Standing.{right-lt}
 use Rattle.removal.specs.Tidies.{ending}
-use Rattle.removal.proofs.Gaps.{ended-past, ended-here, ended-last}
+use Rattle.removal.proofs.Gaps.{mark-is, ended-past, ended-here, ended-last}
 use Rattle.removal.proofs.gap_end.Statement.{statement}
 use Rattle.removal.proofs.gap_end.Tie as tie
 
@@ -29,30 +31,40 @@ here c = c .before .before .loop .inv (c .before .before .before .before .args .
 cast-i : tie.Need-cast-i Inv-loop μ-loop
 cast-i c = omega (arith, right-lt (here c .stands) (c .if1 .taken))
 
-mul-is-mark : tie.Need-mul-is-mark Inv-loop μ-loop
-mul-is-mark c = omega (arith, right-lt (here c .stands) (c .if1 .taken))
+mul-unpack : tie.Need-mul-unpack Inv-loop μ-loop
+mul-unpack c = omega (arith, right-lt (here c .stands) (c .if1 .taken))
 
-shared-slice-read-is-mark : tie.Need-shared-slice-read-is-mark Inv-loop μ-loop
-shared-slice-read-is-mark c = right-lt (here (c .before) .stands) (c .before .if1 .taken) .1
+shared-slice-read-unpack : tie.Need-shared-slice-read-unpack Inv-loop μ-loop
+shared-slice-read-unpack c = right-lt (here (c .before) .stands) (c .before .if1 .taken) .1
 
-is-mark-requires : tie.Need-is-mark-requires Inv-loop μ-loop
-is-mark-requires c κs = search needs
+unpack-requires : tie.Need-unpack-requires Inv-loop μ-loop
+unpack-requires c κs = search needs
+
+stays-in-gap-requires : tie.Need-stays-in-gap-requires Inv-loop μ-loop
+stays-in-gap-requires c κs = search needs
+
+-- what the answer says of the item
+told : (c : tie.After-stays-in-gap Inv-loop μ-loop) → (
+    let t = c .before .before .before in
+    c .stays-in-gap .result ≡ isMark (itemAt (now (t .before .before .before .before .args .items)) (t .before .before .loop .at .right) .what)
+    )
+told c = c .stays-in-gap .ensures ∙ mark-is _ _ (c .before .unpack .ensures)
 
 returns : tie.Need-returns Inv-loop μ-loop
 returns c =
-    let t = c .before .before .before in
-    ended-here (here t) (t .if1 .taken) (sym (c .before .is-mark .ensures) ∙ not-true _ (c .if2 .taken))
+    let t = c .before .before .before .before in
+    ended-here (here t) (t .if1 .taken) (sym (told (c .before)) ∙ not-true _ (c .if2 .taken))
 
 forward-requires : tie.Need-forward-requires Inv-loop μ-loop
-forward-requires c κs = let t = c .before .before .before in (t .if1 .taken, right-lt (here t .stands) (t .if1 .taken) .1)
+forward-requires c κs = let t = c .before .before .before .before in (t .if1 .taken, right-lt (here t .stands) (t .if1 .taken) .1)
 
 loop-less : tie.Need-loop-less Inv-loop μ-loop
 loop-less c = rw (c .forward .ensures) (omega arith)
 
 loop-again : tie.Need-loop-again Inv-loop μ-loop
 loop-again c =
-    let t = c .before .before .before .before in
-    λ h s. ended-past (t .before .before .loop .inv h s) (t .if1 .taken) (sym (c .before .before .is-mark .ensures) ∙ not-false _ (c .before .if2 .left)) _ (c .forward .ensures)
+    let t = c .before .before .before .before .before in
+    λ h s. ended-past (t .before .before .loop .inv h s) (t .if1 .taken) (sym (told (c .before .before)) ∙ not-false _ (c .before .if2 .left)) _ (c .forward .ensures)
 
 returns-2 : tie.Need-returns-2 Inv-loop μ-loop
 returns-2 c =
@@ -67,9 +79,10 @@ gap-end-spec =
     μ-loop
     loop-holds
     cast-i
-    mul-is-mark
-    shared-slice-read-is-mark
-    is-mark-requires
+    mul-unpack
+    shared-slice-read-unpack
+    unpack-requires
+    stays-in-gap-requires
     returns
     forward-requires
     loop-less

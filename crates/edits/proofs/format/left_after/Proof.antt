@@ -5,8 +5,8 @@ use Rattle.edits.proofs.format.left_after.Statement.{statement}
 use Rattle.edits.proofs.format.left_after.Tie as tie
 use Rattle.edits.proofs.format.left_after.Reads as reads
 use Rattle.edits.proofs.format.left_after.Lts as lts
-use Rattle.arena.proofs.find.width.Reads as width-reads
 use Rattle.layout.proofs.word.unpack.Reads as unpack-reads
+use Rattle.layout.proofs.word.width.Reads as width-reads
 
 returns : tie.Need-returns
 returns c = rw (ne-eqb _ _ (c .if1 .taken))

@@ -6,7 +6,7 @@ use Rattle.edits.proofs.format.walks_on.Tie as tie
 use Rattle.edits.proofs.format.walks_on.Reads as reads
 use Rattle.edits.proofs.format.walks_on.Lts as lts
 use Rattle.attrs.proofs.Attrs.is_empty.Reads as is-empty-reads
-use Rattle.edits.proofs.format.is_mark.Reads as is-mark-reads
+use Rattle.layout.proofs.word.is_mark.Reads as is-mark-reads
 
 returns : tie.Need-returns
 returns c = rw (lt-ltb _ _ (c .if1 .taken))
