@@ -1,3 +1,4 @@
 pub mod Works
 pub mod Sounds
 pub mod Calls
+pub mod Appends

@@ -1,51 +1,33 @@
 -- Texts put behind one another: what is left to put gives what there was to put at first. Assumes nothing.
-use Prim.Native.Nat.{ℕ, suc, _+_, _≤_}
+use Prim.Native.Nat.{ℕ, suc, _+_, _-_, _≤_}
+use native.Mathlib.Nat.{add-sub-cancel-left}
 use native.Mathlib.Numerals.{add-one}
 use native.Mathlib.Omega.{arith}
 use mathlib.Core.Path.{_≡_, refl, sym, ap, _∙_}
 use mathlib.Core.Bool.{false}
-use mathlib.Core.List.{List, [], _∷_, _++_, map, append-assoc}
-use lib.ListN.{length, take, drop, length-append, drop-of-length-le}
-use lib.Seq.{length-take-le, length-front, take-at, drop-append-add, drop-drop, paste-zero}
+use mathlib.Core.List.{List, [], _∷_, map}
+use lib.ListN.{length, take, drop, drop-of-length-le}
 use Rattle.attrs.specs.Packed.{says}
 use Rattle.rules.specs.Calls.{newUnits}
+use Rattle.ops.specs.declared.delta.Inserted.the-variants.{Text}
 use Rattle.ops.specs.declared.delta.Op.{Op}
+use Rattle.ops.specs.declared.delta.Op.the-variants.{Insert}
 use Rattle.ops.specs.declared.delta.DeltaOp.{DeltaOp}
 use Rattle.ops.specs.Ops.{opOf}
+use Rattle.changes.specs.Appends.{appended}
+use Rattle.changes.proofs.Appends.{appended-length, appended-twice, appended-none}
 use Rattle.carrying.specs.Turns.{brings, bringing}
 use Rattle.deltas.specs.Checks.{pastEnd, anyPast}
-use Rattle.deltas.specs.Texts.{unitsOf, appended}
+use Rattle.deltas.specs.Texts.{unitsOf}
 use Rattle.deltas.proofs.Refusals.{parts-next}
 use Rattle.deltas.proofs.Laid.{units-long, new-cons}
 
--- ---- once
-module _ (u xs : List ℕ) (a n : ℕ) (low : a ≤ length u) (long : length xs ≡ n) where
-  front-long : length (take a u ++ xs) ≡ a + n
-  front-long = omega (arith, length-append (take a u) xs, length-take-le a u low)
+-- ---- one operation, that is known
+-- a text: the part of the lent units that the code cuts out
+pub part-is : {o : Op} (t : List ℕ) (s n : ℕ) → o ≡ Insert (Text s n) → take (s + n - s) (drop s t) ≡ unitsOf t o
+part-is t s n e = ap (λ (k : ℕ). take k (drop s t)) (add-sub-cancel-left s n) ∙ sym (ap (unitsOf t) e)
 
-  pub appended-is : (take a u ++ xs) ++ drop (a + n) u ≡ appended a xs u
-  appended-is = ap (λ (k : ℕ). (take a u ++ xs) ++ drop k u) (sym front-long)
-
-  pub appended-length : a + n ≤ length u → length (appended a xs u) ≡ length u
-  appended-length room =
-      let e : List ℕ = take a u ++ xs in
-      length-front u e (length e) (sym (length-take-le (length e) u (omega (arith, front-long))))
-
-  -- and behind that once more
-  pub appended-twice : (ys : List ℕ) → appended (a + n) ys (appended a xs u) ≡ appended a (xs ++ ys) u
-  appended-twice ys =
-      let p : List ℕ = take a u ++ xs in
-      let q : List ℕ = drop (length p) u in
-      ap (λ (x : List ℕ). (x ++ ys) ++ drop (length (x ++ ys)) (p ++ q)) (take-at p q (a + n) front-long)
-      ∙ ap (λ (k : ℕ). (p ++ ys) ++ drop k (p ++ q)) (length-append p ys)
-      ∙ ap (λ (x : List ℕ). (p ++ ys) ++ x) (drop-append-add p q (length ys) ∙ drop-drop (length ys) (length p) u)
-      ∙ ap (λ (k : ℕ). (p ++ ys) ++ drop k u) (sym (length-append p ys))
-      ∙ ap (λ (x : List ℕ). x ++ drop (length x) u) (append-assoc (take a u) xs ys)
-
-pub appended-none : (u : List ℕ) (a : ℕ) → a ≤ length u → u ≡ appended a [] u
-appended-none u a low = paste-zero u a [] ∙ appended-is u [] a 0 low refl
-
--- an operation that is known, and has no text
+-- one that has no text
 pub nothing-put : {o p : Op} (t u : List ℕ) (a : ℕ) → a ≤ length u → o ≡ p → unitsOf t p ≡ [] → u ≡ appended a (unitsOf t o) u
 nothing-put t u a low e none = appended-none u a low ∙ ap (λ (x : List ℕ). appended a x u) (sym (ap (unitsOf t) e ∙ none))
 

@@ -1,8 +1,7 @@
--- The units that a delta brings, and where they are put.
+-- The units that a delta brings.
 use Prim.Native.Nat.{ℕ}
-use mathlib.Core.List.{List, [], _++_}
+use mathlib.Core.List.{List, []}
 use lib.ListN.{take, drop}
-use Rattle.layout.specs.Memory.{storedUnits}
 use Rattle.ops.specs.declared.delta.Inserted.{Inserted}
 use Rattle.ops.specs.declared.delta.Inserted.the-variants.{Text, Embed}
 use Rattle.ops.specs.declared.delta.Op.{Op}
@@ -17,7 +16,3 @@ abbrev pub unitsOf : List ℕ → Op → List ℕ
 unitsOf t (Insert i) = partUnits t i
 unitsOf t (Delete n) = []
 unitsOf t (Retain n) = []
-
--- Units put behind the first m of a buffer; what lies behind them stays.
-abbrev pub appended : ℕ → List ℕ → List ℕ → List ℕ
-appended m us u = storedUnits (take m u ++ us) u

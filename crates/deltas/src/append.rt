@@ -3,30 +3,18 @@ ghost use mathlib.Core.Path.{_≡_};
 ghost use mathlib.Core.Bool.{false, cond};
 ghost use Prim.Native.Nat.{_+_, _≤_};
 ghost use lib.Dec.{eqb};
-ghost use lib.ListN.{length, take, drop};
+ghost use lib.ListN.{length};
 ghost use Rattle.rules.specs.Calls.{newUnits};
+ghost use Rattle.changes.specs.Appends.{appended};
 ghost use Rattle.ops.specs.Ops.{opsOf};
 ghost use Rattle.carrying.specs.Turns.{brings, bringing, given};
 ghost use Rattle.deltas.specs.Checks.{pastEnd, anyPast};
-ghost use Rattle.deltas.specs.Texts.{unitsOf, appended};
+ghost use Rattle.deltas.specs.Texts.{unitsOf};
 use carrying::turns::brought;
+use changes::append::append;
 use ops::delta::Delta;
 use ops::delta::Inserted;
 use ops::delta::Op;
-
-fn append_text(units: &mut [u16], at: u32, chunk: &[u16], start: u32, len: u32)
-    requires { ⌜ (at + len ≤ length (now units)) × (start + len ≤ length (now chunk)) ⌝ }
-    ensures { λ _. ⌜ now (units .exit) ≡ appended at (take len (drop start (now (chunk .entry)))) (now (units .entry)) ⌝ }
-{
-    let to = at as usize;
-    let from = start as usize;
-    let n = len as usize;
-    let mut i = 0;
-    while i < n {
-        units[to + i] = chunk[from + i];
-        i += 1;
-    }
-}
 
 fn append_op(units: &mut [u16], at: u32, op: Op, chunk: &[u16])
     requires { ⌜ (at + brings op ≤ length (now units)) × (pastEnd (length (now chunk)) op ≡ false) ⌝ }
@@ -34,7 +22,11 @@ fn append_op(units: &mut [u16], at: u32, op: Op, chunk: &[u16])
 {
     match op {
         Op::Insert(part) => match part {
-            Inserted::Text { start, len } => append_text(units, at, chunk, start, len),
+            Inserted::Text { start, len } => {
+                let a = start as usize;
+                let e = a + len as usize;
+                append(units, at, &chunk[a..e]);
+            }
             Inserted::Embed(_) => {}
         },
         Op::Delete(_) => {}

@@ -4,17 +4,14 @@ use native.Mathlib.Omega.{arith}
 use mathlib.Core.Path.{_≡_, refl, ap, _∙_}
 use mathlib.Core.Bool.{Bool, true, false, cond, not}
 use mathlib.Core.List.{List, [], _∷_, _++_}
-use lib.Dec.{eqb}
-use lib.ListN.{length, take, drop, length-append}
-use lib.Seq.{paste, take-all, length-take-le}
-use borrow.Author.Tests.{eq-eqb}
+use lib.ListN.{length, take, length-append}
 use Rattle.units.specs.Surrogates.{paired, splitsPair}
 use Rattle.sets.specs.Sets.{Set}
 use Rattle.rules.specs.Edits.{byIndex}
 use Rattle.rules.specs.Calls.{Sheet}
 use Rattle.rules.specs.Rulings.{Ruling, seen, asIs, ruling}
 use Rattle.layout.specs.declared.head.Head.{Head}
-use Rattle.layout.specs.Memory.{listOf, modelOf, soundOf, storedUnits}
+use Rattle.layout.specs.Memory.{listOf, modelOf, soundOf}
 use Rattle.layout.proofs.Soundness.{sound-parts}
 use Rattle.layout.proofs.Models.{used-length}
 use Rattle.changes.specs.Changes.{moveOf, Ready}
@@ -70,9 +67,3 @@ text-quiet plain i (x ∷ us) a s h = absurd (omega arith)
 pub text-ready : (plain : Bool) (s n : ℕ) → 0 < n → s + n ≤ 16384 → Ready (textChange plain s n)
 text-ready true s n some few = (some, few)
 text-ready false s n some few = (some, few)
-
--- all of a text is copied behind the units in use
-pub append-whole : (d s : List ℕ) (at n r : ℕ) → r ≡ 0 → n ≡ length s → at ≤ length d → paste d at s n ≡ cond (eqb r 0) (storedUnits (take at d ++ s) d) d
-append-whole d s at n r z e h =
-    let long : at + n ≡ length (take at d ++ s) = omega (arith, length-append (take at d) s, length-take-le at d h) in
-    rw (eq-eqb r 0 z) (ap (λ (x : List ℕ). (take at d ++ x) ++ drop (at + n) d) (take-all n s (omega arith)) ∙ ap (λ (k : ℕ). (take at d ++ s) ++ drop k d) long)

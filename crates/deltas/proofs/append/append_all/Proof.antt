@@ -7,8 +7,8 @@ use lib.ListN.{length, getD, drop}
 use borrow.Author.Tests.{eq-eqb, ne-eqb}
 use Rattle.rules.specs.Calls.{newUnits}
 use Rattle.ops.specs.Ops.{opsOf}
+use Rattle.changes.specs.Appends.{appended}
 use Rattle.carrying.specs.Turns.{given}
-use Rattle.deltas.specs.Texts.{appended}
 use Rattle.carrying.proofs.Carrying.{length-mapped, unread, given-length, given-at}
 use Rattle.deltas.proofs.Appending.{Putting, putting-start, put-part, put-room, putting-next, putting-done}
 use borrow.Author.Needs.{needs}
