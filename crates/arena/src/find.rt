@@ -5,8 +5,8 @@ use crate::At;
 use crate::Place;
 use crate::forward;
 use crate::writes::split;
-use items::shown_len;
 use layout::head::Head;
+use layout::word::shown_len;
 use layout::word::unpack;
 
 // The place at an index, from the first item on. A text that the index ends in is split there.

@@ -12,7 +12,7 @@ use Rattle.rules.specs.Sheet.{What, text, embed, mark, Item}
 use Rattle.rules.specs.Reading.{live, passKey, Glyph, unit, unitsOf, glyphs}
 use Rattle.rules.specs.Sound.{Fits}
 use Rattle.rules.specs.Runs.{Run as Stretch, object, runsFrom, ahead, joined}
-use Rattle.items.specs.Calls.{shownLen}
+use Rattle.layout.specs.Word.{shownLen}
 use Rattle.cursors.specs.declared.run.Run.{Run}
 use Rattle.cursors.specs.declared.cursor.Spot.{Spot}
 use Rattle.cursors.specs.Records.{recordsOf, runsBy}

@@ -19,7 +19,7 @@ use Rattle.layout.specs.declared.word.Content.{Content}
 use Rattle.layout.specs.declared.word.Content.the-variants.{Text, Embed, Mark}
 use Rattle.layout.proofs.word.Content.{the-type}
 use Rattle.layout.specs.declared.word.Item.{Item as Entry}
-use Rattle.items.specs.Calls.{shownLen}
+use Rattle.layout.specs.Word.{shownLen}
 use Rattle.layout.specs.Word.{whatOf, unpackOf}
 use Rattle.layout.specs.Chain.{chain, itemAt, nextAt}
 use Rattle.layout.proofs.Links.{walks-lt, walks-next, chain-step}

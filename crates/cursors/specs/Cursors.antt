@@ -11,7 +11,7 @@ use Rattle.rules.specs.Sheet.{What, text, embed, mark, isMark, Item}
 use Rattle.rules.specs.Reading.{visible, Glyph}
 use Rattle.rules.specs.Runs.{runsFrom}
 use Rattle.rules.specs.Sound.{AllFit}
-use Rattle.items.specs.Calls.{shownLen}
+use Rattle.layout.specs.Word.{shownLen}
 use Rattle.layout.specs.declared.word.Item.{Item as Entry}
 use Rattle.layout.specs.declared.head.Head.{Head}
 use Rattle.layout.specs.Word.{whatOf}

@@ -1,14 +1,14 @@
 // The next run, from a place in the list: by value, so that whoever reads on goes on where the run before ended.
 use crate::run::Run;
 use attrs::Attrs;
-use items::shown_len;
 use layout::head::Head;
 use layout::word::Content;
 use layout::word::Item;
+use layout::word::shown_len;
 use layout::word::unpack;
 ghost use mathlib.Core.Path.{_≡_};
 ghost use Prim.Native.Nat.{_+_, _<_};
-ghost use Rattle.items.specs.Calls.{shownLen};
+ghost use Rattle.layout.specs.Word.{shownLen};
 ghost use Rattle.layout.specs.Word.{whatOf};
 ghost use Rattle.cursors.specs.Cursors.{passesOf, markOn, passedBy, stopsAt, endsBy, pastOf, textRecord, embedRecord, startOf, Stands, Skipped, Gathered, Next};
 

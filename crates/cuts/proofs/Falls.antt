@@ -9,7 +9,7 @@ use borrow.Author.Tests.{lt-ltb, le-ltb}
 use Rattle.rules.specs.Sheet.{What, text, embed, mark}
 use Rattle.rules.specs.Sound.{AllFit, Fits}
 use Rattle.layout.specs.Word.{whatOf, unpackOf}
-use Rattle.items.specs.Calls.{shownLen}
+use Rattle.layout.specs.Word.{shownLen}
 use Rattle.layout.specs.Chain.{nextAt, chain}
 use Rattle.layout.proofs.Links.{chain-step}
 use Rattle.cuts.specs.Cuts.{cutsPiece, cutAt, Lies}

@@ -6,9 +6,9 @@ ghost use Rattle.rules.specs.Calls.{visibleUnits};
 ghost use Rattle.layout.specs.Word.{whatOf};
 ghost use Rattle.layout.specs.Memory.{listOf};
 ghost use Rattle.cuts.specs.Cuts.{cutsPiece, Lies, Readable};
-use items::shown_len;
 use layout::head::Head;
 use layout::word::Content;
+use layout::word::shown_len;
 use layout::word::unpack;
 
 fn cuts_piece(c: Content, used: &[u16], index: u32) -> bool

@@ -2,9 +2,10 @@
 ghost use mathlib.Core.Path.{_≡_};
 ghost use mathlib.Core.Bool.{true, false};
 ghost use lib.ListN.{length};
+ghost use Rattle.rules.specs.Reading.{visible};
 ghost use Rattle.rules.specs.Calls.{applyDelta, check};
 ghost use Rattle.rules.specs.Rulings.{seen};
-ghost use Rattle.layout.specs.Memory.{soundOf, modelOf, carry};
+ghost use Rattle.layout.specs.Memory.{listOf, soundOf, modelOf, carry};
 ghost use Rattle.ops.specs.Ops.{opsOf};
 ghost use Rattle.changes.specs.Frame.{leaving};
 ghost use Rattle.deltas.specs.Checks.{manyOf};
@@ -15,10 +16,9 @@ use crate::checks::total;
 use crate::faults::fault;
 use carrying::frame::carry_all;
 use items::Answer;
-use items::visible_len;
 use layout::head::Head;
 use ops::delta::Delta;
-use soundness::sound;
+use soundness::measure;
 
 fn short_scratch(items: &[u64], units: &[u16]) -> bool
     ensures { λ r. ⌜ r ≡ shortScratch (length (now (items .entry))) (length (now (units .entry))) ⌝ }
@@ -29,21 +29,28 @@ fn short_scratch(items: &[u64], units: &[u16]) -> bool
     units.len() < Head::UNITS as usize
 }
 
-fn delta_fault(h: Head, items: &[u64], units: &[u16], delta: Delta, chunk: &[u16]) -> u32
-    requires { ⌜ (soundOf h (now items) (now units) ≡ true) × (manyOf (length (now chunk)) delta ≡ false) ⌝ }
+// `all`, here and below, is the visible length.
+fn delta_fault(h: Head, items: &[u64], units: &[u16], all: u32, delta: Delta, chunk: &[u16]) -> u32
+    requires { ⌜ (soundOf h (now items) (now units) ≡ true) × (all ≡ visible (listOf h (now items))) × (manyOf (length (now chunk)) delta ≡ false) ⌝ }
     ensures { λ r. ⌜ r ≡ check (seen (modelOf h (now (items .entry)) (now (units .entry)))) 0 (opsOf (now (chunk .entry)) delta) ⌝ }
 {
-    let all = visible_len(h, items);
     let used = h.units as usize;
     fault(h, items, &units[..used], all, delta, chunk)
 }
 
 // What the rules decide: a fault of an operation, then whether all of it has room.
-fn carry_read(h: Head, items: &mut [u64], units: &mut [u16], delta: Delta, chunk: &[u16]) -> Answer
-    requires { ⌜ (soundOf h (now items) (now units) ≡ true) × (manyOf (length (now chunk)) delta ≡ false) ⌝ }
+fn carry_read(
+    h: Head,
+    items: &mut [u64],
+    units: &mut [u16],
+    all: u32,
+    delta: Delta,
+    chunk: &[u16],
+) -> Answer
+    requires { ⌜ (soundOf h (now items) (now units) ≡ true) × (all ≡ visible (listOf h (now items))) × (manyOf (length (now chunk)) delta ≡ false) ⌝ }
     ensures { λ r. ⌜ leaving r (now (items .exit)) (now (units .exit)) ≡ carry (applyDelta (opsOf (now (chunk .entry)) delta)) h (now (items .entry)) (now (units .entry)) ⌝ }
 {
-    let wrong = delta_fault(h, items, units, delta, chunk);
+    let wrong = delta_fault(h, items, units, all, delta, chunk);
     if wrong != 0 {
         return Answer {
             refusal: wrong,
@@ -75,7 +82,8 @@ pub fn apply_delta(
 ) -> Answer
     ensures { λ r. ⌜ leaving r (now (items .exit)) (now (units .exit)) ≡ carryDelta (length (now («scratch_items» .entry))) (length (now («scratch_units» .entry))) (now (chunk .entry)) delta h (now (items .entry)) (now (units .entry)) ⌝ }
 {
-    if !sound(h, items, units) {
+    let m = measure(h, items, units);
+    if !m.sound {
         return Answer {
             refusal: 9,
             head: h,
@@ -93,5 +101,5 @@ pub fn apply_delta(
             head: h,
         };
     }
-    carry_read(h, items, units, delta, chunk)
+    carry_read(h, items, units, m.len, delta, chunk)
 }

@@ -1,10 +1,10 @@
 -- What the calls that read, and begin, answer.
 use Prim.Native.Nat.{ℕ, zero, suc}
-use mathlib.Core.Bool.{Bool, false, cond}
+use mathlib.Core.Bool.{false, cond}
 use mathlib.Core.List.{List, []}
 use lib.ListN.{getD, set, take, drop}
 use lib.Dec.{ltb}
-use Rattle.rules.specs.Sheet.{What, text, embed, mark, width}
+use Rattle.rules.specs.Sheet.{What, text, embed, mark}
 use Rattle.rules.specs.Reading.{visible}
 use Rattle.layout.specs.declared.head.Head.{Head}
 use Rattle.items.specs.declared.Answer.{Answer}
@@ -25,10 +25,6 @@ restWord w = packOf (record { next = unpackOf w .next; content = unpackOf w .con
 unfoldable pub sweepTo : (ℕ → ℕ) → ℕ → List ℕ → List ℕ
 sweepTo e zero m = m
 sweepTo e (suc i) m = set (sweepTo e i m) i (e (getD m i 0))
-
--- What an item adds to the visible length.
-abbrev pub shownLen : Bool → What → ℕ
-shownLen dead w = cond dead 0 (width w)
 
 -- The visible length; 0 beside a refusal.
 unfoldable pub lengthOf : Head → List ℕ → List ℕ → Length

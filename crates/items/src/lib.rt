@@ -5,17 +5,14 @@ use layout::word::Item;
 use layout::word::pack;
 use layout::word::unpack;
 use layout::word::width;
+use soundness::measure;
 use soundness::sound;
 ghost use mathlib.Core.Path.{_≡_};
-ghost use mathlib.Core.Bool.{true};
-ghost use mathlib.Core.List.{List};
-ghost use Prim.Native.Nat.{ℕ, _≤_};
+ghost use Prim.Native.Nat.{_≤_};
 ghost use lib.ListN.{length};
-ghost use Rattle.rules.specs.Reading.{visible};
 ghost use Rattle.rules.specs.Calls.{beginNow};
-ghost use Rattle.layout.specs.Word.{whatOf};
-ghost use Rattle.layout.specs.Memory.{listOf, soundOf, carry};
-ghost use Rattle.items.specs.Calls.{answerOf, restWord, sweepTo, shownLen, lengthOf, textOf};
+ghost use Rattle.layout.specs.Memory.{carry};
+ghost use Rattle.items.specs.Calls.{answerOf, restWord, sweepTo, lengthOf, textOf};
 
 // A refusal number, 0 for none, and the head that the sheet has afterwards.
 pub struct Answer {
@@ -66,44 +63,16 @@ pub fn begin(h: Head, items: &mut [u64], units: &[u16]) -> Answer
     }
 }
 
-// What an item adds to the visible length.
-pub fn shown_len(it: Item) -> u32
-    ensures { λ r. ⌜ r ≡ shownLen (it .dead) (whatOf (it .content)) ⌝ }
-{
-    if it.dead {
-        return 0;
-    }
-    let c = it.content;
-    width(c)
-}
-
-// How many units and embeds are visible, where the sheet is known to be sound.
-pub fn visible_len(h: Head, items: &[u64]) -> u32
-    requires { ⌜ ((u : List ℕ) × (soundOf h (now items) u ≡ true)) ⌝ }
-    ensures { λ r. ⌜ r ≡ visible (listOf h (now (items .entry))) ⌝ }
-{
-    let mut at = h.first;
-    let mut k = h.items;
-    let mut n = 0;
-    while k > 0 {
-        let i = at as usize;
-        let it = unpack(items[i]);
-        n += shown_len(it);
-        at = it.next;
-        k -= 1;
-    }
-    n
-}
-
 pub fn len(h: Head, items: &[u64], units: &[u16]) -> Length
     ensures { λ r. ⌜ r ≡ lengthOf h (now (items .entry)) (now (units .entry)) ⌝ }
 {
-    if !sound(h, items, units) {
+    let m = measure(h, items, units);
+    if !m.sound {
         return Length { refusal: 9, len: 0 };
     }
     Length {
         refusal: 0,
-        len: visible_len(h, items),
+        len: m.len,
     }
 }
 

@@ -6,3 +6,4 @@ pub mod Soundness
 pub mod Stored
 pub mod Copies
 pub mod Models
+pub mod Lengths

@@ -2,7 +2,7 @@
 use Prim.Native.Nat.{ℕ, _+_, _*_, _/_, _%_, _<_}
 use mathlib.Core.Bool.{Bool, true, false, cond, _&&_}
 use lib.Dec.{eqb, ltb}
-use Rattle.rules.specs.Sheet.{What, text, embed, mark}
+use Rattle.rules.specs.Sheet.{What, text, embed, mark, width}
 use Rattle.layout.specs.declared.word.Content.{Content}
 use Rattle.layout.specs.declared.word.Content.the-variants.{Text, Embed, Mark}
 use Rattle.layout.specs.declared.word.Item.{Item}
@@ -63,3 +63,7 @@ Fitting (Mark k v) = (k < 16) × (v < 268435456)
 -- The bits of a word in their range: none above the 49th, and one of the three kinds.
 unfoldable pub inRange : ℕ → Bool
 inRange w = ltb w 562949953421312 && ltb (w / 4096 % 4) 3
+
+-- What an item adds to the visible length.
+abbrev pub shownLen : Bool → What → ℕ
+shownLen dead w = cond dead 0 (width w)

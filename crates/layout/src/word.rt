@@ -2,7 +2,7 @@
 ghost use mathlib.Core.Path.{_≡_};
 ghost use Prim.Native.Nat.{_<_, _≤_};
 ghost use Rattle.rules.specs.Sheet.{width, isMark};
-ghost use Rattle.layout.specs.Word.{whatOf, contentFrom, unpackOf, kindOf, payloadOf, flagOf, packOf, relinkOf, inRange};
+ghost use Rattle.layout.specs.Word.{whatOf, contentFrom, unpackOf, kindOf, payloadOf, flagOf, packOf, relinkOf, inRange, shownLen};
 
 pub enum Content {
     Text { start: u32, len: u32 },
@@ -127,4 +127,15 @@ pub fn in_range(w: u64) -> bool
         return false;
     }
     w / 4096 % 4 < 3
+}
+
+// What an item adds to the visible length.
+pub fn shown_len(it: Item) -> u32
+    ensures { λ r. ⌜ r ≡ shownLen (it .dead) (whatOf (it .content)) ⌝ }
+{
+    if it.dead {
+        return 0;
+    }
+    let c = it.content;
+    width(c)
 }

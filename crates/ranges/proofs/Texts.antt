@@ -19,7 +19,7 @@ use Rattle.layout.specs.Chain.{chain, itemAt, nextAt}
 use Rattle.layout.proofs.Links.{walks-lt, walks-next, chain-step}
 use Rattle.ranges.specs.declared.Place.{Place}
 use Rattle.ranges.specs.declared.Shown.{Shown}
-use Rattle.items.specs.Calls.{shownLen}
+use Rattle.layout.specs.Word.{shownLen}
 use Rattle.runs.specs.Answers.{written}
 use Rattle.ranges.specs.Texts.{unitIn, showing, LiesIn, Reads, Given}
 use Rattle.runs.proofs.Fronts.{written-more}

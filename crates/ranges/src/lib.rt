@@ -1,7 +1,7 @@
 // The visible units of a range, copied out: so a run's text can be had by its start and length.
-use items::shown_len;
 use layout::head::Head;
 use layout::word::Content;
+use layout::word::shown_len;
 use layout::word::unpack;
 use runs::calls::Count;
 ghost use mathlib.Core.Path.{_≡_};

@@ -2,12 +2,12 @@
 ghost use mathlib.Core.Path.{_≡_};
 ghost use mathlib.Core.Bool.{true, cond, not};
 ghost use Rattle.units.specs.Surrogates.{paired, splitsPair};
+ghost use Rattle.rules.specs.Reading.{visible};
 ghost use Rattle.rules.specs.Calls.{badRange};
 ghost use Rattle.rules.specs.Rulings.{seen};
-ghost use Rattle.layout.specs.Memory.{soundOf, modelOf};
+ghost use Rattle.layout.specs.Memory.{listOf, soundOf, modelOf};
 ghost use Rattle.refusals.specs.Ranges.{removalFault};
 use cuts::cuts_pair;
-use items::visible_len;
 use layout::head::Head;
 
 // The index is of 64 bits, so that an index and a length add up exactly.
@@ -54,8 +54,9 @@ pub fn range_fault(h: Head, items: &[u64], units: &[u16], index: u32, len: u32) 
     0
 }
 
-pub fn removal_fault(h: Head, items: &[u64], units: &[u16], index: u32, n: u32) -> u32
-    requires { ⌜ soundOf h (now items) (now units) ≡ true ⌝ }
+// `all` is the visible length.
+pub fn removal_fault(h: Head, items: &[u64], units: &[u16], all: u32, index: u32, n: u32) -> u32
+    requires { ⌜ (soundOf h (now items) (now units) ≡ true) × (all ≡ visible (listOf h (now items))) ⌝ }
     ensures { λ r. ⌜ r ≡ removalFault (seen (modelOf h (now (items .entry)) (now (units .entry)))) index n ⌝ }
 {
     let fault = range_fault(h, items, units, index, n);
@@ -65,7 +66,6 @@ pub fn removal_fault(h: Head, items: &[u64], units: &[u16], index: u32, n: u32) 
     if n == 0 {
         return 0;
     }
-    let all = visible_len(h, items);
     if index as u64 + n as u64 > all as u64 {
         return 1;
     }

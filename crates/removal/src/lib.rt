@@ -17,11 +17,11 @@ use arena::forward;
 use arena::writes::delete;
 use arena::writes::split;
 use attrs::Attrs;
-use items::shown_len;
 use layout::head::Head;
 use layout::word::Content;
 use layout::word::Item;
 use layout::word::is_mark;
+use layout::word::shown_len;
 use layout::word::unpack;
 
 // A branch of its own, so that the walks go straight on.

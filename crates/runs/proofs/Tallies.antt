@@ -15,7 +15,7 @@ use Rattle.layout.specs.Memory.{listOf, modelOf, soundOf}
 use Rattle.layout.proofs.Links.{walks-parts}
 use Rattle.layout.proofs.Soundness.{sound-parts}
 use Rattle.layout.proofs.Models.{model-sound}
-use Rattle.items.proofs.Showing.{visible-room}
+use Rattle.layout.proofs.Lengths.{visible-room}
 use Rattle.cursors.specs.declared.run.Run.{Run}
 use Rattle.cursors.specs.declared.cursor.Cursor.{Cursor}
 use Rattle.cursors.specs.Records.{blank, recordsOf, runsBy, records}

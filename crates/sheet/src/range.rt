@@ -11,6 +11,7 @@ use items::Answer;
 use layout::head::Head;
 use refusals::range_fault;
 use refusals::removal_fault;
+use soundness::measure;
 use soundness::sound;
 
 // A length past the end formats to the end.
@@ -44,13 +45,14 @@ pub fn format(
 pub fn remove_range(h: Head, items: &mut [u64], units: &[u16], index: u32, len: u32) -> Answer
     ensures { λ r. ⌜ leaving r (now (items .exit)) (now (units .entry)) ≡ carry (removeRange index len) h (now (items .entry)) (now (units .entry)) ⌝ }
 {
-    if !sound(h, items, units) {
+    let m = measure(h, items, units);
+    if !m.sound {
         return Answer {
             refusal: 9,
             head: h,
         };
     }
-    let fault = removal_fault(h, items, units, index, len);
+    let fault = removal_fault(h, items, units, m.len, index, len);
     if fault != 0 {
         return Answer {
             refusal: fault,

@@ -2,13 +2,14 @@
 use layout::head::Head;
 use layout::word::Content;
 use layout::word::in_range;
+use layout::word::shown_len;
 use layout::word::unpack;
 ghost use mathlib.Core.Path.{_≡_};
 ghost use Prim.Native.Nat.{_≤_};
 ghost use lib.ListN.{length};
 ghost use Rattle.rules.specs.Sheet.{text};
 ghost use Rattle.layout.specs.Word.{whatOf};
-ghost use Rattle.soundness.specs.Walk.{Sized, Plain};
+ghost use Rattle.soundness.specs.Walk.{Sized, Plain, broken, measureOf};
 ghost use Rattle.layout.specs.Memory.{flagsOk, lenOf, whatOk, wordOk, soundOf};
 
 fn flags_ok(dead: bool, added: bool, gone: bool) -> bool
@@ -83,58 +84,86 @@ fn text_len(c: Content) -> u32
     }
 }
 
+// Whether a lent sheet is sound, and how many units and embeds are visible then.
+pub struct Measured {
+    pub sound: bool,
+    pub len: u32,
+}
+
+impl Measured {
+    fn broken() -> Measured
+        ensures { λ r. ⌜ r ≡ broken ⌝ }
+    {
+        Measured {
+            sound: false,
+            len: 0,
+        }
+    }
+}
+
 // One walk by the links. It stops where the texts so far are longer than all of them may be, so that no unit is read more than
 // twice, however the pieces overlap.
-fn walk_ok(h: Head, items: &[u64], units: &[u16], plain: bool) -> bool
+fn walk(h: Head, items: &[u64], units: &[u16], plain: bool) -> Measured
     requires { ⌜ Sized h (now items) (now units) ⌝ }
     requires { ⌜ Plain plain (h .units) (now units) ⌝ }
-    ensures { λ r. ⌜ r ≡ soundOf h (now (items .entry)) (now (units .entry)) ⌝ }
+    ensures { λ r. ⌜ r ≡ measureOf h (now (items .entry)) (now (units .entry)) ⌝ }
 {
     let n = h.items;
     let used = h.units;
     let mut at = h.first;
     let mut k = n;
     let mut sum = 0;
+    let mut len = 0;
     while k > 0 {
         if at >= n {
-            return false;
+            return Measured::broken();
         }
         let i = at as usize;
         let w = items[i];
         if !word_ok(w, units, used, plain) {
-            return false;
+            return Measured::broken();
         }
         let it = unpack(w);
         let c = it.content;
         sum += text_len(c);
         if sum > used {
-            return false;
+            return Measured::broken();
         }
+        len += shown_len(it);
         at = it.next;
         k -= 1;
     }
     if at != Head::END {
-        return false;
+        return Measured::broken();
     }
-    sum == used
+    if sum != used {
+        return Measured::broken();
+    }
+    Measured { sound: true, len }
+}
+
+pub fn measure(h: Head, items: &[u64], units: &[u16]) -> Measured
+    ensures { λ r. ⌜ r ≡ measureOf h (now (items .entry)) (now (units .entry)) ⌝ }
+{
+    if items.len() != 2048 {
+        return Measured::broken();
+    }
+    if units.len() != 16384 {
+        return Measured::broken();
+    }
+    if h.items > Head::ITEMS {
+        return Measured::broken();
+    }
+    if h.units > Head::UNITS {
+        return Measured::broken();
+    }
+    let used = h.units as usize;
+    let plain = units::is_plain(&units[..used]);
+    walk(h, items, units, plain)
 }
 
 pub fn sound(h: Head, items: &[u64], units: &[u16]) -> bool
     ensures { λ r. ⌜ r ≡ soundOf h (now (items .entry)) (now (units .entry)) ⌝ }
 {
-    if items.len() != 2048 {
-        return false;
-    }
-    if units.len() != 16384 {
-        return false;
-    }
-    if h.items > Head::ITEMS {
-        return false;
-    }
-    if h.units > Head::UNITS {
-        return false;
-    }
-    let used = h.units as usize;
-    let plain = units::is_plain(&units[..used]);
-    walk_ok(h, items, units, plain)
+    measure(h, items, units).sound
 }

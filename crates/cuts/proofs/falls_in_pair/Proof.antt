@@ -17,7 +17,7 @@ use Rattle.cuts.proofs.falls_in_pair.Tie as tie
 use Rattle.cuts.proofs.falls_in_pair.Reads as reads
 use Rattle.cuts.proofs.falls_in_pair.Lts as lts
 use Rattle.cuts.proofs.cuts_piece.Reads as cuts-piece-reads
-use Rattle.items.proofs.shown_len.Reads as shown-len-reads
+use Rattle.layout.proofs.word.shown_len.Reads as shown-len-reads
 use Rattle.layout.proofs.word.unpack.Reads as unpack-reads
 
 abbrev Inv-loop : tie.InvT-loop

@@ -15,7 +15,7 @@ abbrev text : tie.Start → List ℕ
 text s = seen (modelOf (s .args .h) (now (s .args .items)) (now (s .args .units)))
 
 range-fault-requires : tie.Need-range-fault-requires
-range-fault-requires c κs = search needs
+range-fault-requires c κs = c .before .before .pre .0
 
 returns : tie.Need-returns
 returns c =
@@ -28,28 +28,22 @@ returns-2 c =
     let a = e .before .before .before .before in
     fault-zero (text a) (a .args .index) (a .args .n) _ (e .before .range-fault .ensures) (e .if1 .left) (c .if2 .taken)
 
-visible-len-requires : tie.Need-visible-len-requires
-visible-len-requires c κs = (_, c .before .before .before .before .before .pre)
-
 add-if3 : tie.Need-add-if3
 add-if3 c = search needs
 
-cast-if3 : tie.Need-cast-if3
-cast-if3 c = search needs
-
 returns-3 : tie.Need-returns-3
 returns-3 c =
-    let some = c .before .before in
+    let some = c .before in
     let e = some .before in
     let a = e .before .before .before .before in
-    let long = length-is (a .args .h) (now (a .args .items)) (now (a .args .units)) _ (c .before .visible-len .ensures) in
+    let long = length-is (a .args .h) (now (a .args .items)) (now (a .args .units)) _ (a .pre .1) in
     fault-short (text a) (a .args .index) (a .args .n) _ (e .before .range-fault .ensures) (e .if1 .left) (omega (arith, some .if2 .left)) (omega (arith, long, c .if3 .taken))
 
 returns-4 : tie.Need-returns-4
 returns-4 c =
-    let e = c .before .before .before in
+    let e = c .before .before in
     let a = e .before .before .before .before in
-    let long = length-is (a .args .h) (now (a .args .items)) (now (a .args .units)) _ (c .before .visible-len .ensures) in
+    let long = length-is (a .args .h) (now (a .args .items)) (now (a .args .units)) _ (a .pre .1) in
     fault-none (text a) (a .args .index) (a .args .n) _ (e .before .range-fault .ensures) (e .if1 .left) (omega (arith, long, c .if3 .left))
 
 pub removal-fault-spec : {M : Type 1} → statement M
@@ -59,8 +53,6 @@ removal-fault-spec =
     range-fault-requires
     returns
     returns-2
-    visible-len-requires
     add-if3
-    cast-if3
     returns-3
     returns-4)

@@ -5,29 +5,30 @@ use lib.ListN.{length}
 use borrow.Author.Tests.{not-true, not-false}
 use denote.Ref.{now}
 use Rattle.layout.specs.Memory.{soundOf}
+use Rattle.soundness.proofs.Measures.{sound-is, len-is}
 use Rattle.deltas.specs.Checks.{manyOf}
 use Rattle.deltas.proofs.Applying.{carried-unsound, carried-many, carried-short, carried-ruled}
 use borrow.Author.Needs.{needs}
 use Rattle.deltas.proofs.apply.apply_delta.Statement.{statement}
 use Rattle.deltas.proofs.apply.apply_delta.Tie as tie
 
-abbrev first : tie.After-sound → tie.Start
+abbrev first : tie.After-measure → tie.Start
 first c = c .before .before .before .before .before .before .before .before
 
 sound-here : (c : tie.Else1) → (
-    let a = first (c .before) .args in
+    let a = first (c .before .before) .args in
     soundOf (a .h) (now (a .items)) (now (a .units)) ≡ true
     )
-sound-here c = sym (c .before .sound .ensures) ∙ not-false _ (c .if1 .left)
+sound-here c = sym (sound-is _ _ _ _ (c .before .before .measure .ensures)) ∙ not-false _ (c .if1 .left)
 
 read-here : (c : tie.Else2) → (
-    let a = first (c .before .before .before) .args in
+    let a = first (c .before .before .before .before) .args in
     manyOf (length (now (a .chunk))) (a .delta) ≡ false
     )
 read-here c = sym (c .before .many .ensures) ∙ c .if2 .left
 
-sound-requires : tie.Need-sound-requires
-sound-requires c κs = search needs
+measure-requires : tie.Need-measure-requires
+measure-requires c κs = search needs
 
 same-length : tie.Need-same-length
 same-length c = search needs
@@ -36,7 +37,7 @@ same-length-2 : tie.Need-same-length-2
 same-length-2 c = search needs
 
 returns : tie.Need-returns
-returns c = carried-unsound _ _ _ _ _ _ _ (sym (c .before .sound .ensures) ∙ not-true _ (c .if1 .taken))
+returns c = carried-unsound _ _ _ _ _ _ _ (sym (sound-is _ _ _ _ (c .before .before .measure .ensures)) ∙ not-true _ (c .if1 .taken))
 
 many-requires : tie.Need-many-requires
 many-requires c κs = search needs
@@ -67,7 +68,7 @@ returns-3 c =
 carry-read-requires : tie.Need-carry-read-requires
 carry-read-requires c κs =
     let read = c .before .before .before .before in
-    (sound-here (read .before .before), read-here read)
+    (sound-here (read .before .before), len-is _ _ _ _ (read .before .before .before .before .measure .ensures) (sound-here (read .before .before)), read-here read)
 
 same-length-7 : tie.Need-same-length-7
 same-length-7 c = search needs
@@ -86,7 +87,7 @@ pub apply-delta-spec : {M : Type 1} → statement M
 apply-delta-spec =
     tie.close
     (tie.spec
-    sound-requires
+    measure-requires
     same-length
     same-length-2
     returns

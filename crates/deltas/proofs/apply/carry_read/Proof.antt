@@ -46,7 +46,7 @@ returns c =
     carry-faulty (asked s) _ _ _ (s .pre .0) _ refl _ (c .before .delta-fault .ensures) (c .if1 .taken)
 
 total-requires : tie.Need-total-requires
-total-requires c κs = many-none _ _ (first (c .before) .pre .1) .0
+total-requires c κs = many-none _ _ (first (c .before) .pre .2) .0
 
 sub-if2 : tie.Need-sub-if2
 sub-if2 c = sound-parts _ _ _ (first (c .before .before) .pre .0) .used
@@ -65,7 +65,7 @@ returns-2 c =
     let clear = c .before .before in
     let s = first (clear .before) in
     let a = s .args in
-    let parts = many-none _ _ (s .pre .1) .1 in
+    let parts = many-none _ _ (s .pre .2) .1 in
     let over : 16384 < length (take (a .h .units) (now (a .units)) ++ newUnits (opsOf (now (a .chunk)) (a .delta))) = omega (arith, c .if2 .taken, c .before .total .ensures, delta-long (now (a .chunk)) (a .delta) _ _ _ (s .pre .0) parts) in
     carry-crowded (asked s) _ _ _ (s .pre .0) _ refl _ (clear .before .delta-fault .ensures) (clear .if1 .left) over
 
@@ -78,13 +78,13 @@ add-carry-all c = search needs
 carry-all-requires : tie.Need-carry-all-requires
 carry-all-requires c κs =
     let s = first (c .before .before .before .before) in
-    (sound-loads _ _ _ (s .pre .0), many-none _ _ (s .pre .1) .0, fits (c .before))
+    (sound-loads _ _ _ (s .pre .0), many-none _ _ (s .pre .2) .0, fits (c .before))
 
 append-all-requires : tie.Need-append-all-requires
 append-all-requires c κs =
     let room = c .before .before .before .before .before in
     let s = first (room .before .before .before) in
-    let read = many-none _ _ (s .pre .1) in
+    let read = many-none _ _ (s .pre .2) in
     (sound-parts _ _ _ (s .pre .0) .room, read .0, read .1, fits room)
 
 same-length-5 : tie.Need-same-length-5
@@ -101,7 +101,7 @@ returns-3 c =
     let clear = room .before .before in
     let s = first (clear .before) in
     let a = s .args in
-    let parts = many-none _ _ (s .pre .1) .1 in
+    let parts = many-none _ _ (s .pre .2) .1 in
     let long = delta-long (now (a .chunk)) (a .delta) (a .h) (now (a .items)) (now (a .units)) (s .pre .0) parts ∙ ap (λ (n : ℕ). a .h .units + n) (sym (room .before .total .ensures)) in
     carry-granted (asked s) _ _ _ (s .pre .0) _ refl _ (clear .before .delta-fault .ensures) (clear .if1 .left) _ long (omega (arith, fits room, room .before .total .ensures)) _
     (delta-granted (now (a .chunk)) (a .delta) _ _ _ (s .pre .0) parts _ _ (done .carry-all .ensures))

@@ -6,24 +6,21 @@ use denote.Ref.{now}
 use Rattle.deltas.proofs.apply.delta_fault.Statement.{statement}
 use Rattle.deltas.proofs.apply.delta_fault.Tie as tie
 
-visible-len-requires : tie.Need-visible-len-requires
-visible-len-requires c κs = (_, c .before .before .before .pre .0)
-
 cast-used : tie.Need-cast-used
 cast-used c = search needs
 
 slice-aggregate-fault : tie.Need-slice-aggregate-fault
-slice-aggregate-fault c = used-is _ _ _ (c .before .before .before .before .before .before .pre .0)
+slice-aggregate-fault c = used-is _ _ _ (c .before .before .before .before .before .pre .0)
 
 fault-requires : tie.Need-fault-requires
 fault-requires c κs =
-    let s = c .before .before .before .before .before .before in
-    let read = many-none _ _ (s .pre .1) in
-    (sound-reads _ _ _ (s .pre .0), length-is (s .args .h) (now (s .args .items)) (now (s .args .units)) _ (c .before .before .visible-len .ensures), read .0, read .1)
+    let s = c .before .before .before .before .before in
+    let read = many-none _ _ (s .pre .2) in
+    (sound-reads _ _ _ (s .pre .0), length-is (s .args .h) (now (s .args .items)) (now (s .args .units)) _ (s .pre .1), read .0, read .1)
 
 returns : tie.Need-returns
 returns c = search needs
 
 pub delta-fault-spec : {M : Type 1} → statement M
 delta-fault-spec =
-    tie.close (tie.spec visible-len-requires cast-used slice-aggregate-fault fault-requires returns)
+    tie.close (tie.spec cast-used slice-aggregate-fault fault-requires returns)
