@@ -6,6 +6,7 @@ use mathlib.Core.Bool.{Bool, true, false, cond}
 use mathlib.Core.List.{List, [], _∷_, _++_}
 use lib.ListN.{getD, take}
 use borrow.Author.Tests.{ne-eqb}
+use Rattle.attrs.specs.declared.Attrs.{Attrs}
 use Rattle.attrs.specs.declared.Took.{Took}
 use Rattle.sets.specs.Sets.{Env, none, asSet}
 use Rattle.attrs.specs.Packed.{packed, envOf}
@@ -20,7 +21,7 @@ use Rattle.layout.specs.Word.{whatOf, unpackOf}
 use Rattle.layout.specs.Chain.{itemAt, nextAt, chain, walks}
 use Rattle.layout.proofs.Links.{walks-parts}
 use Rattle.arena.specs.declared.Place.{Place}
-use Rattle.arena.specs.Places.{InRange, Neat, leftOf, inForce, Standing, passedForce}
+use Rattle.arena.specs.Places.{InRange, Neat, leftOf, inForce, Standing, passedForce, liveMark, forwardOf}
 use Rattle.arena.proofs.Carried.{after-append}
 
 -- an item by its parts
@@ -38,6 +39,22 @@ pub force-past : (L : List Item) (n : ℕ) (c : Content) (d a g : Bool) → InRa
 unfolding inForce
 force-past L n c d a g t =
     one-past (after none L) n c d a g t ∙ ap (λ (e : Env). packed (asSet e)) (sym (after-append none L (itemOf n c d a g ∷ [])))
+
+-- only a live mark has to be passed
+told : (a : Attrs) (d : Bool) (c : Content) → cond (liveMark d c) (passedForce a false c) a ≡ passedForce a d c
+unfolding passedForce
+told a true c = refl
+told a false (Text s l) = refl
+told a false (Embed x) = refl
+told a false (Mark k v) = refl
+
+pub forward-told : (m : List ℕ) (p : Place) (b : Bool) → let it = unpackOf (getD m (p .right) 0) in
+    liveMark (it .dead) (it .content) ≡ b
+    → record { left = p .right; right = it .next; todo = p .todo - 1; force = cond b (passedForce (p .force) false (it .content)) (p .force) } ≡ forwardOf m p
+forward-told m p b e =
+    let it = unpackOf (getD m (p .right) 0) in
+    let f = ap (λ (x : Bool). cond x (passedForce (p .force) false (it .content)) (p .force)) (sym e) ∙ told (p .force) (it .dead) (it .content) in
+    ap (λ (a : Attrs). record { left = p .right; right = it .next; todo = p .todo - 1; force = a }) f
 
 pub force-none : packed (asSet none) ≡ inForce []
 unfolding inForce

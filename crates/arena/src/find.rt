@@ -4,6 +4,8 @@ ghost use Rattle.arena.specs.Places.{SIZE, Arena, Carried, startOf, plac
 use crate::At;
 use crate::Place;
 use crate::forward;
+use crate::is_live_mark;
+use crate::passed;
 use crate::writes::split;
 use layout::head::Head;
 use layout::word::shown_len;
@@ -31,7 +33,14 @@ pub fn find_position(h: Head, items: &mut [u64], index: u32) -> At
             return At { head, place };
         }
         rest -= w;
-        p = forward(items, p);
+        p.left = p.right;
+        p.right = it.next;
+        p.todo -= 1;
+        if is_live_mark(it) {
+            let before = p.force;
+            let content = it.content;
+            p.force = passed(before, content);
+        }
     }
     At { head: h, place: p }
 }

@@ -1,11 +1,13 @@
 // A working copy of a sheet's items, with room to spare, and the places in it.
 ghost use mathlib.Core.Path.{_≡_};
+ghost use mathlib.Core.Bool.{false};
 ghost use Prim.Native.Nat.{_-_, _<_, _≤_};
 ghost use lib.ListN.{length};
-ghost use Rattle.arena.specs.Places.{startOf, passedForce, forwardOf, keptPlace};
+ghost use Rattle.arena.specs.Places.{startOf, passedForce, liveMark, forwardOf, keptPlace};
 use attrs::Attrs;
 use layout::head::Head;
 use layout::word::Content;
+use layout::word::Item;
 use layout::word::unpack;
 
 pub mod writes; // what is written into it
@@ -55,17 +57,29 @@ pub struct At {
     pub place: Place,
 }
 
-// What is in force behind an item.
-fn passed(force: Attrs, dead: bool, content: Content) -> Attrs
-    ensures { λ r. ⌜ r ≡ passedForce force dead content ⌝ }
+// What is in force behind a live item.
+fn passed(force: Attrs, content: Content) -> Attrs
+    ensures { λ r. ⌜ r ≡ passedForce force false content ⌝ }
 {
-    if dead {
-        return force;
-    }
     match content {
         Content::Text { start: _, len: _ } => force,
         Content::Embed(_) => force,
         Content::Mark { key, value } => force.update_current_attributes(key, value).attrs,
+    }
+}
+
+// Only such an item changes what is in force.
+fn is_live_mark(it: Item) -> bool
+    ensures { λ r. ⌜ r ≡ liveMark (it .dead) (it .content) ⌝ }
+{
+    if it.dead {
+        return false;
+    }
+    let c = it.content;
+    match c {
+        Content::Text { start: _, len: _ } => false,
+        Content::Embed(_) => false,
+        Content::Mark { key: _, value: _ } => true,
     }
 }
 
@@ -76,13 +90,14 @@ pub fn forward(items: &[u64], p: Place) -> Place
 {
     let i = p.right as usize;
     let it = unpack(items[i]);
-    let before = p.force;
-    let content = it.content;
-    let force = passed(before, it.dead, content);
-    Place {
-        left: p.right,
-        right: it.next,
-        todo: p.todo - 1,
-        force,
+    let mut q = p;
+    q.left = p.right;
+    q.right = it.next;
+    q.todo = p.todo - 1;
+    if is_live_mark(it) {
+        let before = p.force;
+        let content = it.content;
+        q.force = passed(before, content);
     }
+    q
 }

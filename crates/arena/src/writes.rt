@@ -48,7 +48,7 @@ pub fn put(h: Head, items: &mut [u64], p: Place, content: Content) -> At
 {
     let head = put_after(h, items, p.left, p.right, content);
     let before = p.force;
-    let force = passed(before, false, content);
+    let force = passed(before, content);
     At {
         head,
         place: Place {

@@ -1,5 +1,7 @@
 -- `arena::forward` meets its contract. Assumes nothing.
+use Rattle.arena.proofs.Forces.{forward-told}
 use borrow.Author.Needs.{needs}
+use mathlib.Core.Bool.{true, false}
 use Rattle.arena.proofs.forward.Statement.{statement}
 use Rattle.arena.proofs.forward.Tie as tie
 
@@ -15,14 +17,30 @@ shared-slice-read-unpack c = search needs
 unpack-requires : tie.Need-unpack-requires
 unpack-requires c κs = search needs
 
+sub-q : tie.Need-sub-q
+sub-q c = search needs
+
+is-live-mark-requires : tie.Need-is-live-mark-requires
+is-live-mark-requires c κs = search needs
+
 passed-requires : tie.Need-passed-requires
 passed-requires c κs = search needs
 
-sub-t11 : tie.Need-sub-t11
-sub-t11 c = search needs
-
 returns : tie.Need-returns
-returns c = rw (c .before .passed .ensures, c .before .before .before .unpack .ensures)
+returns c =
+    let told = c .before .before .before in
+    let read = told .before .before in
+    let given = read .before .before .before .before .args in
+    let yes = rw (told .is-live-mark .ensures, read .unpack .ensures) at (c .before .before .if1 .taken) in
+    rw (c .passed .ensures, read .unpack .ensures) (forward-told (given .items .now) (given .p) true yes)
+
+returns-2 : tie.Need-returns-2
+returns-2 c =
+    let told = c .before in
+    let read = told .before .before in
+    let given = read .before .before .before .before .args in
+    let no = rw (told .is-live-mark .ensures, read .unpack .ensures) at (c .if1 .left) in
+    rw (read .unpack .ensures) (forward-told (given .items .now) (given .p) false no)
 
 pub forward-spec : {M : Type 1} → statement M
 forward-spec =
@@ -32,6 +50,8 @@ forward-spec =
     mul-unpack
     shared-slice-read-unpack
     unpack-requires
+    sub-q
+    is-live-mark-requires
     passed-requires
-    sub-t11
-    returns)
+    returns
+    returns-2)

@@ -4,10 +4,6 @@ use borrow.Author.Needs.{needs}
 use Rattle.arena.proofs.passed.Statement.{statement}
 use Rattle.arena.proofs.passed.Tie as tie
 
-returns : tie.Need-returns
-unfolding passedForce
-returns c = rw (c .if1 .taken)
-
 enum-told : tie.Need-enum-told
 enum-told c = search needs
 
@@ -20,29 +16,18 @@ enum-known-content c = search needs
 update-current-attributes-requires : tie.Need-update-current-attributes-requires
 update-current-attributes-requires c κs = search needs
 
+returns : tie.Need-returns
+unfolding passedForce
+returns c = rw (c .enum-told .given .1)
+
 returns-2 : tie.Need-returns-2
 unfolding passedForce
-returns-2 c = rw (c .before .before .if1 .left, c .enum-told .given .1)
+returns-2 c = rw (c .enum-told2 .given .1)
 
 returns-3 : tie.Need-returns-3
 unfolding passedForce
-returns-3 c = rw (c .before .before .if1 .left, c .enum-told2 .given .1)
-
-returns-4 : tie.Need-returns-4
-unfolding passedForce
-returns-4 c =
-    let arm = c .before .before .before in
-    rw (c .before .update-current-attributes .ensures, arm .before .before .if1 .left, arm .content .given .1)
+returns-3 c = rw (c .before .update-current-attributes .ensures, c .before .before .before .content .given .1)
 
 pub passed-spec : {M : Type 1} → statement M
 passed-spec =
-    tie.close
-    (tie.spec
-    returns
-    enum-told
-    enum-told-2
-    enum-known-content
-    update-current-attributes-requires
-    returns-2
-    returns-3
-    returns-4)
+    tie.close (tie.spec enum-told enum-told-2 enum-known-content update-current-attributes-requires returns returns-2 returns-3)

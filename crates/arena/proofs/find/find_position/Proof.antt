@@ -1,11 +1,13 @@
 -- `arena::find::find_position` meets its contract. The invariant: what is left of the index, placed from where the walk stands, is the index placed from the start. Assumes nothing.
 use Rattle.arena.proofs.Finds.{found-zero, found-end, found-past, found-cut, found-cuttable}
+use Rattle.arena.proofs.Forces.{forward-told}
 use Rattle.arena.proofs.Steps.{start-stands, cut-more}
 use Rattle.arena.proofs.Standing.{right-lt}
 use Rattle.arena.proofs.Carried.{going-start}
 use Rattle.arena.specs.Places.{Going, placing, startOf}
 use borrow.Author.Needs.{needs}
 use lib.ListN.{length}
+use mathlib.Core.Bool.{true, false}
 use mathlib.Core.Path.{sym, _∙_}
 use native.Mathlib.Omega.{arith}
 use Prim.Native.Nat.{_<_}
@@ -77,21 +79,43 @@ returns-2 c =
     let w = rw (used .shown-len .ensures, used .before .unpack .ensures) at (cut .before .before .if3 .taken) in
     found-cut (on .before .before .loop .inv) (on .if1 .taken) (used .before .before .before .before .if2 .left) w (cut .split .ensures) _ (c .forward .ensures)
 
-forward-requires-2 : tie.Need-forward-requires-2 Inv-loop μ-loop
-forward-requires-2 c κs =
-    let on = c .before .before .before .before .before .before .before in
-    (on .if1 .taken, inside on .1)
+sub-p : tie.Need-sub-p Inv-loop μ-loop
+sub-p c = search needs
+
+is-live-mark-requires : tie.Need-is-live-mark-requires Inv-loop μ-loop
+is-live-mark-requires c κs = search needs
+
+passed-requires : tie.Need-passed-requires Inv-loop μ-loop
+passed-requires c κs = search needs
 
 loop-less : tie.Need-loop-less Inv-loop μ-loop
-loop-less c = rw (c .forward2 .ensures) (omega arith)
+loop-less c = omega arith
 
 loop-again : tie.Need-loop-again Inv-loop μ-loop
 loop-again c =
-    let used = c .before .before .before in
+    let told = c .before .before .before in
+    let used = told .before .before .before in
     let on = used .before .before .before .before .before in
-    let w = rw (used .shown-len .ensures, used .before .unpack .ensures) at (c .before .before .if3 .left) in
+    let here = on .before .before .loop in
+    let w = rw (used .shown-len .ensures, used .before .unpack .ensures) at (told .before .before .if3 .left) in
+    let yes = rw (told .is-live-mark .ensures, used .before .unpack .ensures) at (c .before .before .if4 .taken) in
+    rw (c .passed .ensures, used .shown-len .ensures, used .before .unpack .ensures) (
+    found-past (here .inv) (on .if1 .taken) (used .before .before .before .before .if2 .left) w _ (forward-told (here .items) (here .p) true yes)
+    )
+
+loop-less-2 : tie.Need-loop-less-2 Inv-loop μ-loop
+loop-less-2 c = omega arith
+
+loop-again-2 : tie.Need-loop-again-2 Inv-loop μ-loop
+loop-again-2 c =
+    let told = c .before in
+    let used = told .before .before .before in
+    let on = used .before .before .before .before .before in
+    let here = on .before .before .loop in
+    let w = rw (used .shown-len .ensures, used .before .unpack .ensures) at (told .before .before .if3 .left) in
+    let no = rw (told .is-live-mark .ensures, used .before .unpack .ensures) at (c .if4 .left) in
     rw (used .shown-len .ensures, used .before .unpack .ensures) (
-    found-past (on .before .before .loop .inv) (on .if1 .taken) (used .before .before .before .before .if2 .left) w _ (c .forward2 .ensures)
+    found-past (here .inv) (on .if1 .taken) (used .before .before .before .before .if2 .left) w _ (forward-told (here .items) (here .p) false no)
     )
 
 same-length-3 : tie.Need-same-length-3 Inv-loop μ-loop
@@ -119,8 +143,12 @@ find-position-spec =
     forward-requires
     same-length-2
     returns-2
-    forward-requires-2
+    sub-p
+    is-live-mark-requires
+    passed-requires
     loop-less
     loop-again
+    loop-less-2
+    loop-again-2
     same-length-3
     returns-3)
