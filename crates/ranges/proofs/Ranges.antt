@@ -1,68 +1,31 @@
--- What a range of the visible units answers: an index inside a pair, how long the text is, and each way through the call. Assumes nothing.
+-- What a range of the visible units answers: how long the text is, and each way through the call. Assumes nothing.
 use Prim.Native.Nat.{ℕ, zero, suc, _+_, _-_, _<_, _≤_, min}
-use native.Mathlib.Nat.{add-zero}
 use native.Mathlib.Omega.{arith}
 use mathlib.Core.Path.{_≡_, refl, sym, ap, ap₂, _∙_}
-use mathlib.Core.Bool.{Bool, true, false, cond, not, _&&_}
-use mathlib.Core.List.{List, [], _∷_, _++_}
+use mathlib.Core.Bool.{Bool, true, false, cond, not}
+use mathlib.Core.List.{List, [], _∷_, _++_, map}
 use lib.Dec.{leb}
-use lib.ListN.{length, getD, take, drop, length-append, length-take, length-drop}
-use lib.Seq.{drop-drop, getD-drop}
-use borrow.Author.Tests.{le-leb, lt-leb}
-use Rattle.units.specs.Surrogates.{isHigh, isLow, splitsPair}
-use Rattle.rules.specs.Sheet.{width, Item}
-use Rattle.rules.specs.Reading.{unit, visible}
-use Rattle.rules.specs.Calls.{visibleUnits, badRange}
+use lib.ListN.{length, take, drop, length-append, length-take, length-drop}
+use lib.Seq.{getD-take}
+use borrow.Author.Tests.{le-leb, lt-leb, leb-true}
+use Rattle.rules.specs.Sheet.{What, text, embed, mark, width, Item}
+use Rattle.rules.specs.Reading.{unitsOf, visible}
+use Rattle.rules.specs.Sound.{Fits, AllFit}
+use Rattle.rules.specs.Calls.{unitAt, visibleUnits, badRange}
+use Rattle.rules.specs.Rulings.{seen}
 use Rattle.layout.specs.declared.head.Head.{Head}
 use Rattle.items.specs.declared.Length.{Length}
-use Rattle.layout.specs.Memory.{listOf, soundOf}
+use Rattle.layout.specs.Memory.{listOf, modelOf, soundOf}
 use Rattle.items.specs.Calls.{lengthOf}
 use Rattle.layout.proofs.Soundness.{sound-parts}
 use Rattle.layout.proofs.Models.{model-sound, used-length}
-use Rattle.ranges.specs.declared.Place.{Place}
-use Rattle.ranges.specs.declared.Shown.{Shown}
+use Rattle.runs.specs.declared.calls.Count.{Count}
 use Rattle.runs.specs.Answers.{written, answer}
-use Rattle.ranges.specs.Texts.{visibleIn, textIn, splitsAt, textAnswer, Copied, showing, Reads, Given}
+use Rattle.ranges.specs.Texts.{visibleIn, textIn, textAnswer, Copied, showing, Reads}
 use Rattle.runs.proofs.Tallies.{start-stands}
-use Rattle.ranges.proofs.Texts.{place, shown-cons, length-shown}
+use Rattle.ranges.proofs.Texts.{place, shownOf, shown-cons, length-shown}
 
--- ---- an index inside a pair
-
-module _ (h : Head) (m u : List ℕ) (i : ℕ) where
-  abbrev start : Place
-  start = place (h .first) (h .items) (i - 1)
-
-  pub splits-start : i ≡ 0 → false ≡ splitsAt h m u i
-  splits-start e = rw e
-
-  module _ (some : 0 < i) (b c : Shown) (g : Given m u (place (h .first) (h .items) (i - 1)) b) (k : Given m u (b .place) c) where
-    showing-start : showing m u (place (h .first) (h .items) (i - 1)) ≡ drop (i - 1) (visibleIn h m u)
-    unfolding showing visibleIn
-    showing-start = refl
-
-    before-is : b .unit ≡ getD (visibleIn h m u) (i - 1) 0
-    before-is =
-        g .unit
-        ∙ ap (λ (l : List ℕ). getD l 0 0) showing-start
-        ∙ getD-drop (i - 1) (visibleIn h m u) 0 0
-        ∙ ap (λ (x : ℕ). getD (visibleIn h m u) x 0) (add-zero (i - 1))
-
-    behind-is : c .unit ≡ getD (visibleIn h m u) i 0
-    behind-is =
-        let e : i - 1 + 1 + 0 ≡ i = omega arith in
-        k .unit
-        ∙ ap (λ (l : List ℕ). getD l 0 0) (g .after ∙ ap (drop 1) showing-start ∙ drop-drop 1 (i - 1) (visibleIn h m u))
-        ∙ getD-drop (i - 1 + 1) (visibleIn h m u) 0 0
-        ∙ ap (λ (x : ℕ). getD (visibleIn h m u) x 0) e
-
-    pair-at : (n : ℕ) → n ≡ i → splitsPair (visibleIn h m u) n ≡ isHigh (getD (visibleIn h m u) (n - 1) 0) && isLow (getD (visibleIn h m u) n 0)
-    pair-at zero e = absurd (omega arith)
-    pair-at (suc n) e = let q : suc n - 1 ≡ n = omega arith in rw q
-
-    pub splits-is : splitsAt h m u i ≡ isHigh (b .unit) && isLow (c .unit)
-    splits-is = pair-at i refl ∙ ap₂ (λ (x y : ℕ). isHigh x && isLow y) (sym before-is) (sym behind-is)
-
--- ---- the answer
+-- ---- how long, and where it is read
 
 length-visible : (u : List ℕ) (l : List Item) → length (visibleUnits u l) ≡ visible l
 length-visible u [] = refl
@@ -79,6 +42,9 @@ module _ (h : Head) (m u : List ℕ) where
   unfolding visibleIn
   text-long i n = simp (length-take, length-drop, length-visible)
 
+  all-fit : soundOf h m u ≡ true → AllFit (h .units) (listOf h m)
+  all-fit e = let s = sound-parts h m u e in rw (used-length h m u s) at (model-sound h m u s .list .fit)
+
   pub reads-start : soundOf h m u ≡ true → (off : ℕ) → Reads m u (place (h .first) (h .items) off)
   reads-start e off =
       let s = sound-parts h m u e in
@@ -86,7 +52,7 @@ module _ (h : Head) (m u : List ℕ) where
       record {
         used = h .units;
         walk = st .walk;
-        fit = rw (used-length h m u s) at (model-sound h m u s .list .fit);
+        fit = all-fit e;
         room = omega (arith, s .used, s .room);
       }
 
@@ -121,9 +87,6 @@ all-take [] = refl
 all-take (x ∷ xs) = ap (λ (l : List ℕ). x ∷ l) (all-take xs)
 
 module _ (h : Head) (m u : List ℕ) (i n : ℕ) where
-  abbrev text′ : List ℕ
-  text′ = textIn h m u i n
-
   shows-text : showing m u (place (h .first) (h .items) i) ≡ drop i (visibleIn h m u)
   unfolding showing visibleIn
   shows-text = refl
@@ -134,56 +97,104 @@ module _ (h : Head) (m u : List ℕ) (i n : ℕ) where
       text-min : (xs : List ℕ) → length (take n xs) ≤ length xs
       text-min xs = simp length-take (omega arith)
 
-  module _ (ys : List ℕ) where
-    refused : (r : ℕ) → answer r 0 ≡ textAnswer h m u i n (length ys) → Copied h m u i n ys ys (answer r 0)
-    refused r e = record { answers = e; leaves = refl }
+-- ---- what the sheet shows lies in the used units
+piece-used : (u : List ℕ) (used s n : ℕ) → s + n ≤ used → map (unitAt (take used u)) (unitsOf s n) ≡ map (unitAt u) (unitsOf s n)
+piece-used u used s zero l = refl
+piece-used u used s (suc n) l = ap₂ (λ (x : ℕ) (xs : List ℕ). x ∷ xs) (getD-take used u s 0 (omega arith)) (piece-used u used (suc s) n (omega arith))
 
-    broken : soundOf h m u ≡ false → answer 9 0 ≡ textAnswer h m u i n (length ys)
+item-used : (u : List ℕ) (used : ℕ) (d : Bool) (w : What) → Fits used w → shownOf (take used u) d w ≡ shownOf u d w
+item-used u used true w f = refl
+item-used u used false (text s n) f = piece-used u used s n (f .1)
+item-used u used false (embed x) f = refl
+item-used u used false (mark k v) f = refl
+
+units-used : (u : List ℕ) (used : ℕ) (l : List Item) → AllFit used l → visibleUnits (take used u) l ≡ visibleUnits u l
+units-used u used [] f = refl
+units-used u used (i ∷ l) f =
+    shown-cons (take used u) i l
+    ∙ ap₂ _++_ (item-used u used (i .flags .dead) (i .what) (f .1)) (units-used u used l (f .2))
+    ∙ sym (shown-cons u i l)
+
+seen-is : (h : Head) (m u : List ℕ) → soundOf h m u ≡ true → seen (modelOf h m u) ≡ visibleIn h m u
+unfolding visibleIn
+seen-is h m u e = units-used u (h .units) (listOf h m) (all-fit h m u e)
+
+-- ---- the answer
+module _ (h : Head) (m u : List ℕ) (i n room : ℕ) where
+  -- as many units as there are, where they fit
+  abbrev fitting : ℕ → Count
+  fitting k = cond (leb k room) (answer 0 k) (answer 8 0)
+
+  pub plan-broken : soundOf h m u ≡ false → answer 9 0 ≡ textAnswer h m u i n room
+  unfolding textAnswer
+  plan-broken e = rw e
+
+  module _ (e : soundOf h m u ≡ true) (f : ℕ) (is : f ≡ cond (badRange (seen (modelOf h m u)) i n) 2 0) where
+    fault-is : f ≡ cond (badRange (visibleIn h m u) i n) 2 0
+    fault-is = is ∙ ap (λ (us : List ℕ). cond (badRange us i n) 2 0) (seen-is h m u e)
+
+    -- by whether the range is a bad one
+    by-range : (b : Bool) → badRange (visibleIn h m u) i n ≡ b → (f ≡ cond b 2 0) × (cond b (answer 2 0) (fitting (length (textIn h m u i n))) ≡ textAnswer h m u i n room)
     unfolding textAnswer
-    broken e = rw e
+    by-range b q = (fault-is ∙ ap (λ (x : Bool). cond x 2 0) q, rw (e, q))
 
-    pub copied-broken : soundOf h m u ≡ false → Copied h m u i n ys ys (answer 9 0)
-    copied-broken e = refused 9 (broken e)
+    pub plan-pair : (f ≡ 0 → ⊥) → answer f 0 ≡ textAnswer h m u i n room
+    plan-pair some = go (badRange (visibleIn h m u) i n) refl
+      where
+        go : (b : Bool) → badRange (visibleIn h m u) i n ≡ b → answer f 0 ≡ textAnswer h m u i n room
+        go true q = ap (λ (x : ℕ). answer x 0) (by-range true q .0) ∙ by-range true q .1
+        go false q = absurd (some (by-range false q .0))
 
-    module _ (e : soundOf h m u ≡ true) where
-      -- sound, and by whether the range is a bad one
-      by-range : (c : Bool) → badRange (visibleIn h m u) i n ≡ c
-          → textAnswer h m u i n (length ys) ≡ cond c (answer 2 0) (cond (leb (length text′) (length ys)) (answer 0 (length text′)) (answer 8 0))
-      unfolding textAnswer
-      by-range c b =
-          ap (λ (s : Bool). cond s (cond (badRange (visibleIn h m u) i n) (answer 2 0) (cond (leb (length text′) (length ys)) (answer 0 (length text′)) (answer 8 0))) (answer 9 0)) e
-          ∙ ap (λ (s : Bool). cond s (answer 2 0) (cond (leb (length text′) (length ys)) (answer 0 (length text′)) (answer 8 0))) b
+    module _ (none : f ≡ 0) (k : ℕ) (long : k ≡ length (textIn h m u i n)) where
+      fitting-is : fitting k ≡ textAnswer h m u i n room
+      fitting-is = go (badRange (visibleIn h m u) i n) refl
+        where
+          go : (b : Bool) → badRange (visibleIn h m u) i n ≡ b → fitting k ≡ textAnswer h m u i n room
+          go true q = absurd (omega (arith, none, by-range true q .0))
+          go false q = ap fitting long ∙ by-range false q .1
 
-      pub copied-pair : badRange (visibleIn h m u) i n ≡ true → Copied h m u i n ys ys (answer 2 0)
-      copied-pair b = refused 2 (sym (by-range true b))
+      pub plan-short : room < k → answer 8 0 ≡ textAnswer h m u i n room
+      plan-short l = ap (λ (b : Bool). cond b (answer 0 k) (answer 8 0)) (sym (lt-leb k room l)) ∙ fitting-is
 
-      module _ (b : badRange (visibleIn h m u) i n ≡ false) (k : ℕ) (is : k ≡ length (textIn h m u i n)) where
-        answer-is : textAnswer h m u i n (length ys) ≡ cond (leb k (length ys)) (answer 0 k) (answer 8 0)
-        answer-is = by-range false b ∙ ap (λ (x : ℕ). cond (leb x (length ys)) (answer 0 x) (answer 8 0)) (sym is)
+      pub plan-fits : k ≤ room → answer 0 k ≡ textAnswer h m u i n room
+      plan-fits l = ap (λ (b : Bool). cond b (answer 0 k) (answer 8 0)) (sym (le-leb k room l)) ∙ fitting-is
 
-        pub copied-short : length ys < k → Copied h m u i n ys ys (answer 8 0)
-        copied-short l = refused 8 (sym (answer-is ∙ ap (λ (c : Bool). cond c (answer 0 k) (answer 8 0)) (lt-leb k (length ys) l)))
+-- ---- the call
+module _ (h : Head) (m u : List ℕ) (i n : ℕ) (ys : List ℕ) (r : Count) (is : r ≡ textAnswer h m u i n (length ys)) where
+  -- refused: nothing is written
+  pub copied-none : (r .refusal ≡ 0 → ⊥) → Copied h m u i n ys ys r
+  unfolding textAnswer
+  copied-none some = record { answers = is; leaves = ap (λ (k : ℕ). written (textIn h m u i n) k ys) (sym none) }
+    where
+      go : (s b f : Bool) (k : ℕ) → r ≡ cond s (cond b (answer 2 0) (cond f (answer 0 k) (answer 8 0))) (answer 9 0) → r .count ≡ 0
+      go false b f k q = ap (λ (x : Count). x .count) q
+      go true true f k q = ap (λ (x : Count). x .count) q
+      go true false true k q = absurd (some (ap (λ (x : Count). x .refusal) q))
+      go true false false k q = ap (λ (x : Count). x .count) q
 
-        pub copied-fits : (out : List ℕ) → k ≤ length ys → out ≡ written (showing m u (place (h .first) (h .items) i)) k ys → Copied h m u i n ys out (answer 0 k)
-        copied-fits out l w =
-            record {
-              answers = sym (answer-is ∙ ap (λ (c : Bool). cond c (answer 0 k) (answer 8 0)) (le-leb k (length ys) l));
-              leaves = w ∙ ap (λ (x : List ℕ). x ++ drop k ys) front;
-            }
-          where
-            front : take k (showing m u (place (h .first) (h .items) i)) ≡ take k (textIn h m u i n)
-            front =
-                ap (take k) shows-text
-                ∙ ap (λ (x : ℕ). take x (drop i (visibleIn h m u))) is
-                ∙ fit-take n (drop i (visibleIn h m u))
-                ∙ sym (all-take text′)
-                ∙ ap (λ (x : ℕ). take x text′) (sym is)
+      none : r .count ≡ 0
+      none = go (soundOf h m u) (badRange (visibleIn h m u) i n) (leb (length (textIn h m u i n)) (length ys)) (length (textIn h m u i n)) is
 
-pub pair-first : (us : List ℕ) (i n : ℕ) → splitsPair us i ≡ true → badRange us i n ≡ true
-pair-first us i n e = rw e
+  module _ (ok : r .refusal ≡ 0) where
+    -- not refused: the sheet is sound, and the text fits
+    pub granted : (soundOf h m u ≡ true) × (r .count ≡ length (textIn h m u i n)) × (r .count ≤ length ys)
+    unfolding textAnswer
+    granted = go (soundOf h m u) (badRange (visibleIn h m u) i n) (leb (length (textIn h m u i n)) (length ys)) refl is
+      where
+        go : (s b f : Bool) → leb (length (textIn h m u i n)) (length ys) ≡ f → r ≡ cond s (cond b (answer 2 0) (cond f (answer 0 (length (textIn h m u i n))) (answer 8 0))) (answer 9 0)
+            → (s ≡ true) × (r .count ≡ length (textIn h m u i n)) × (r .count ≤ length ys)
+        go false b f l q = absurd (omega (arith, ok, ap (λ (x : Count). x .refusal) q))
+        go true true f l q = absurd (omega (arith, ok, ap (λ (x : Count). x .refusal) q))
+        go true false false l q = absurd (omega (arith, ok, ap (λ (x : Count). x .refusal) q))
+        go true false true l q = let c = ap (λ (x : Count). x .count) q in (refl, c, omega (arith, c, leb-true (length (textIn h m u i n)) (length ys) l))
 
-pub pair-last : (us : List ℕ) (i n : ℕ) → splitsPair us i ≡ false → splitsPair us (i + n) ≡ true → badRange us i n ≡ true
-pair-last us i n e f = rw (e, f)
-
-pub pair-none : (us : List ℕ) (i n : ℕ) → splitsPair us i ≡ false → splitsPair us (i + n) ≡ false → badRange us i n ≡ false
-pair-none us i n e f = rw (e, f)
+    pub copied-fits : (out : List ℕ) → out ≡ written (showing m u (place (h .first) (h .items) i)) (r .count) ys → Copied h m u i n ys out r
+    copied-fits out w = record { answers = is; leaves = w ∙ ap (λ (x : List ℕ). x ++ drop (r .count) ys) front }
+      where
+        front : take (r .count) (showing m u (place (h .first) (h .items) i)) ≡ take (r .count) (textIn h m u i n)
+        front =
+            ap (take (r .count)) (shows-text h m u i n)
+            ∙ ap (λ (x : ℕ). take x (drop i (visibleIn h m u))) (granted .1)
+            ∙ fit-take n (drop i (visibleIn h m u))
+            ∙ sym (all-take (textIn h m u i n))
+            ∙ ap (λ (x : ℕ). take x (textIn h m u i n)) (sym (granted .1))

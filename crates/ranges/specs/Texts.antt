@@ -1,11 +1,10 @@
 -- The visible units of a range.
 use Prim.Native.Nat.{ℕ, _+_, _≤_}
 use mathlib.Core.Path.{_≡_}
-use mathlib.Core.Bool.{Bool, true, cond}
+use mathlib.Core.Bool.{true, cond}
 use mathlib.Core.List.{List}
 use lib.Dec.{leb}
 use lib.ListN.{length, getD, take, drop}
-use Rattle.units.specs.Surrogates.{splitsPair}
 use Rattle.rules.specs.Sheet.{What, text, embed, mark}
 use Rattle.rules.specs.Sound.{AllFit}
 use Rattle.rules.specs.Calls.{visibleUnits, badRange}
@@ -24,10 +23,6 @@ visibleIn h m u = visibleUnits u (listOf h m)
 -- .. from i on, n units at most.
 abbrev pub textIn : Head → List ℕ → List ℕ → ℕ → ℕ → List ℕ
 textIn h m u i n = take n (drop i (visibleIn h m u))
-
--- Does an index fall inside a pair of what the sheet shows?
-abbrev pub splitsAt : Head → List ℕ → List ℕ → ℕ → Bool
-splitsAt h m u i = splitsPair (visibleIn h m u) i
 
 -- 9 where the sheet is not sound, 2 where an end of the range falls inside a pair, 8 where the text does not fit `room`; else its length.
 unfoldable pub textAnswer : Head → List ℕ → List ℕ → ℕ → ℕ → ℕ → Count

@@ -3,6 +3,7 @@ use layout::head::Head;
 use layout::word::Content;
 use layout::word::shown_len;
 use layout::word::unpack;
+use refusals::range_fault;
 use runs::calls::Count;
 ghost use mathlib.Core.Path.{_≡_};
 ghost use Prim.Native.Nat.{_-_, _<_, _≤_, min};
@@ -10,7 +11,7 @@ ghost use lib.ListN.{length};
 ghost use Rattle.layout.specs.Word.{whatOf};
 ghost use Rattle.runs.specs.Answers.{written};
 ghost use Rattle.rules.specs.Sheet.{width as widthOf};
-ghost use Rattle.ranges.specs.Texts.{unitIn, showing, splitsAt, Reads, Given, LiesIn, Copied};
+ghost use Rattle.ranges.specs.Texts.{unitIn, showing, textAnswer, Reads, Given, LiesIn, Copied};
 
 // How many items are left from `at`, and how many visible units from there are passed over.
 pub struct Place {
@@ -75,25 +76,6 @@ fn next_unit(items: &[u64], units: &[u16], from: Place) -> Shown
     Shown { place, unit: 0 }
 }
 
-// Whether visible unit i is the second half of a pair.
-fn splits(items: &[u64], units: &[u16], h: Head, i: u64) -> bool
-    requires { ⌜ Reads (now items) (now units) (record { at = h .first; todo = h .items; off = 0 }) ⌝ }
-    ensures { λ r. ⌜ r ≡ splitsAt h (now (items .entry)) (now (units .entry)) i ⌝ }
-{
-    if i == 0 {
-        return false;
-    }
-    let place = Place {
-        at: h.first,
-        todo: h.items,
-        off: i - 1,
-    };
-    let before = next_unit(items, units, place);
-    let on = before.place;
-    let behind = next_unit(items, units, on);
-    units::is_high(before.unit) && units::is_low(behind.unit)
-}
-
 fn copy_out(items: &[u64], units: &[u16], from: Place, n: usize, out: &mut [u16])
     requires { ⌜ Reads (now items) (now units) from ⌝ }
     requires { ⌜ (n ≤ length (showing (now items) (now units) from)) × (n ≤ length (now out)) ⌝ }
@@ -122,6 +104,37 @@ fn span(all: u32, index: u32, len: u32) -> u32
     len
 }
 
+// What is answered where there is room for so many units.
+fn plan(h: Head, items: &[u64], units: &[u16], index: u32, len: u32, room: usize) -> Count
+    ensures { λ r. ⌜ r ≡ textAnswer h (now (items .entry)) (now (units .entry)) index len room ⌝ }
+{
+    let all = items::len(h, items, units);
+    if all.refusal != 0 {
+        return Count {
+            refusal: 9,
+            count: 0,
+        };
+    }
+    let fault = range_fault(h, items, units, index, len);
+    if fault != 0 {
+        return Count {
+            refusal: fault,
+            count: 0,
+        };
+    }
+    let n = span(all.len, index, len) as usize;
+    if n > room {
+        return Count {
+            refusal: 8,
+            count: 0,
+        };
+    }
+    Count {
+        refusal: 0,
+        count: n,
+    }
+}
+
 // An embed is written as a unit 0. A range that reaches past the visible text ends with it.
 pub fn text_of_range(
     h: Head,
@@ -133,40 +146,15 @@ pub fn text_of_range(
 ) -> Count
     ensures { λ r. ⌜ Copied h (now (items .entry)) (now (units .entry)) index len (now (out .entry)) (now (out .exit)) r ⌝ }
 {
-    let all = items::len(h, items, units);
-    if all.refusal != 0 {
-        return Count {
-            refusal: 9,
-            count: 0,
-        };
-    }
-    if splits(items, units, h, index as u64) {
-        return Count {
-            refusal: 2,
-            count: 0,
-        };
-    }
-    if splits(items, units, h, index as u64 + len as u64) {
-        return Count {
-            refusal: 2,
-            count: 0,
-        };
-    }
-    let n = span(all.len, index, len) as usize;
-    if n > out.len() {
-        return Count {
-            refusal: 8,
-            count: 0,
-        };
+    let answer = plan(h, items, units, index, len, out.len());
+    if answer.refusal != 0 {
+        return answer;
     }
     let place = Place {
         at: h.first,
         todo: h.items,
         off: index as u64,
     };
-    copy_out(items, units, place, n, out);
-    Count {
-        refusal: 0,
-        count: n,
-    }
+    copy_out(items, units, place, answer.count, out);
+    answer
 }
