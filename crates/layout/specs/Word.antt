@@ -17,13 +17,20 @@ whatOf (Mark k v) = mark k v
 abbrev pub contentFrom : ℕ → ℕ → Content
 contentFrom k p = cond (eqb k 0) (Text (p % 16384) (p / 16384)) (cond (eqb k 1) (Embed p) (Mark (p % 16) (p / 16)))
 
+-- The kind and the payload in a word.
+abbrev pub kindIn : ℕ → ℕ
+kindIn w = w / 4096 % 4
+
+abbrev pub payloadIn : ℕ → ℕ
+payloadIn w = w / 4096 / 32 % 4294967296
+
 -- The item that a word says. The low 12 bits are the link; then kind (2 bits), dead, added, gone, and a payload of 32 bits.
 -- Everything but the link is a function of w / 4096.
 abbrev pub unpackOf : ℕ → Item
 unpackOf w =
     record {
       next = w % 4096;
-      content = contentFrom (w / 4096 % 4) (w / 4096 / 32 % 4294967296);
+      content = contentFrom (kindIn w) (payloadIn w);
       dead = eqb (w / 4096 / 4 % 2) 1;
       added = eqb (w / 4096 / 8 % 2) 1;
       gone = eqb (w / 4096 / 16 % 2) 1;

@@ -2,7 +2,7 @@
 ghost use mathlib.Core.Path.{_≡_};
 ghost use Prim.Native.Nat.{_<_, _≤_};
 ghost use Rattle.rules.specs.Sheet.{width, isMark};
-ghost use Rattle.layout.specs.Word.{whatOf, contentFrom, unpackOf, kindOf, payloadOf, flagOf, packOf, relinkOf, inRange, shownLen};
+ghost use Rattle.layout.specs.Word.{whatOf, contentFrom, unpackOf, kindOf, payloadOf, flagOf, packOf, relinkOf, inRange, kindIn, payloadIn, shownLen};
 
 pub enum Content {
     Text { start: u32, len: u32 },
@@ -71,6 +71,19 @@ pub fn unpack(w: u64) -> Item
         added: q / 8 % 2 == 1,
         gone: q / 16 % 2 == 1,
     }
+}
+
+// The kind and the payload in a word, for a walk that has no use for the item itself.
+pub fn kind_of(w: u64) -> u64
+    ensures { λ r. ⌜ r ≡ kindIn w ⌝ }
+{
+    w / 4096 % 4
+}
+
+pub fn payload_of(w: u64) -> u64
+    ensures { λ r. ⌜ (r ≡ payloadIn w) × (r < 4294967296) ⌝ }
+{
+    w / 4096 / 32 % 4294967296
 }
 
 fn kind(c: Content) -> u64

@@ -1,14 +1,14 @@
 // Whether a lent sheet is sound.
 use layout::head::Head;
-use layout::word::Content;
 use layout::word::in_range;
-use layout::word::shown_len;
+use layout::word::kind_of;
+use layout::word::payload_of;
 use layout::word::unpack;
 ghost use mathlib.Core.Path.{_≡_};
-ghost use Prim.Native.Nat.{_≤_};
+ghost use Prim.Native.Nat.{_<_, _≤_};
 ghost use lib.ListN.{length};
 ghost use Rattle.rules.specs.Sheet.{text};
-ghost use Rattle.layout.specs.Word.{whatOf};
+ghost use Rattle.layout.specs.Word.{whatOf, contentFrom, shownLen};
 ghost use Rattle.soundness.specs.Walk.{Sized, Plain, broken, measureOf};
 ghost use Rattle.layout.specs.Memory.{flagsOk, lenOf, whatOk, wordOk, soundOf};
 
@@ -41,21 +41,22 @@ fn piece_ok(start: u32, len: u32, units: &[u16], used: u32, plain: bool) -> bool
     units::is_whole(&units[a..e])
 }
 
-fn content_ok(c: Content, units: &[u16], used: u32, plain: bool) -> bool
+// What a kind and a payload say, here and below, with no item made of the word: every call makes this walk.
+fn content_ok(kind: u64, payload: u64, units: &[u16], used: u32, plain: bool) -> bool
     requires { ⌜ used ≤ length (now units) ⌝ }
     requires { ⌜ Plain plain used (now units) ⌝ }
-    ensures { λ r. ⌜ r ≡ whatOk (now (units .entry)) used (whatOf c) ⌝ }
+    requires { ⌜ payload < 4294967296 ⌝ }
+    ensures { λ r. ⌜ r ≡ whatOk (now (units .entry)) used (whatOf (contentFrom kind payload)) ⌝ }
 {
-    match c {
-        Content::Text { start, len } => piece_ok(start, len, units, used, plain),
-        Content::Embed(_) => true,
-        Content::Mark { key, value } => {
-            if key < 16 {
-                return value < 256;
-            }
-            false
-        }
+    if kind == 0 {
+        let start = (payload % 16384) as u32;
+        let len = (payload / 16384) as u32;
+        return piece_ok(start, len, units, used, plain);
     }
+    if kind == 1 {
+        return true;
+    }
+    payload / 16 < 256
 }
 
 fn word_ok(w: u64, units: &[u16], used: u32, plain: bool) -> bool
@@ -70,18 +71,31 @@ fn word_ok(w: u64, units: &[u16], used: u32, plain: bool) -> bool
     if !flags_ok(it.dead, it.added, it.gone) {
         return false;
     }
-    let c = it.content;
-    content_ok(c, units, used, plain)
+    content_ok(kind_of(w), payload_of(w), units, used, plain)
 }
 
-fn text_len(c: Content) -> u32
-    ensures { λ r. ⌜ r ≡ lenOf (whatOf c) ⌝ }
+fn text_len(kind: u64, payload: u64) -> u32
+    requires { ⌜ payload < 4294967296 ⌝ }
+    ensures { λ r. ⌜ r ≡ lenOf (whatOf (contentFrom kind payload)) ⌝ }
 {
-    match c {
-        Content::Text { start: _, len } => len,
-        Content::Embed(_) => 0,
-        Content::Mark { key: _, value: _ } => 0,
+    if kind == 0 {
+        return (payload / 16384) as u32;
     }
+    0
+}
+
+// What is added to the visible length.
+fn shown_len(dead: bool, kind: u64, payload: u64) -> u32
+    requires { ⌜ payload < 4294967296 ⌝ }
+    ensures { λ r. ⌜ r ≡ shownLen dead (whatOf (contentFrom kind payload)) ⌝ }
+{
+    if dead {
+        return 0;
+    }
+    if kind == 1 {
+        return 1;
+    }
+    text_len(kind, payload)
 }
 
 // Whether a lent sheet is sound, and how many units and embeds are visible then.
@@ -123,13 +137,14 @@ fn walk(h: Head, items: &[u64], units: &[u16], plain: bool) -> Measured
         if !word_ok(w, units, used, plain) {
             return Measured::broken();
         }
-        let it = unpack(w);
-        let c = it.content;
-        sum += text_len(c);
+        let kind = kind_of(w);
+        let payload = payload_of(w);
+        sum += text_len(kind, payload);
         if sum > used {
             return Measured::broken();
         }
-        len += shown_len(it);
+        let it = unpack(w);
+        len += shown_len(it.dead, kind, payload);
         at = it.next;
         k -= 1;
     }

@@ -37,19 +37,19 @@ whole-is c =
     sound-rest _ _ _ (sized .words) (sized .room) (sized .items) (sized .used) ∙ sym (c .loop .inv .2)
 
 word-is : (c : tie.After-text-len Inv-loop μ-loop) → (
-    let l = c .before .before .before .before .before .before .before in
+    let l = c .before .before .before .before .before .before .before .before in
     let a = l .before .before .before .args in
     wordOk (now (a .units)) (a .h .units) (getD (now (a .items)) (l .loop .at) 0) ≡ true
     )
-word-is c = sym (c .before .before .before .word-ok .ensures) ∙ not-false _ (c .before .before .if2 .left)
+word-is c = sym (c .before .before .before .before .word-ok .ensures) ∙ not-false _ (c .before .before .before .if2 .left)
 
 len-is : (c : tie.After-text-len Inv-loop μ-loop) → (
-    let l = c .before .before .before .before .before .before .before in
+    let l = c .before .before .before .before .before .before .before .before in
     let a = l .before .before .before .args in
     (c .text-len .result ≡ lenOf (itemAt (now (a .items)) (l .loop .at) .what)) × (c .text-len .result ≤ a .h .units)
     )
 len-is c =
-    let e = rw (c .before .unpack .ensures) at (c .text-len .ensures) in
+    let e = rw (c .before .before .kind-of .ensures, c .before .payload-of .ensures .0) at (c .text-len .ensures) in
     let l = ok-len _ _ _ (word-parts _ _ _ (word-is c) .2) in
     (e, omega (arith, e, l))
 
@@ -89,15 +89,18 @@ returns-2 c =
     let at-loop = bad .before .before .before .before .before in
     measured-broken _ _ _ _ (c .broken2 .ensures) (sym (whole-is at-loop ∙ rest-bad _ _ _ _ _ _ _ (omega arith) (sym (bad .before .word-ok .ensures) ∙ not-true _ (bad .if2 .taken))))
 
-unpack-requires : tie.Need-unpack-requires Inv-loop μ-loop
-unpack-requires c κs = search needs
+kind-of-requires : tie.Need-kind-of-requires Inv-loop μ-loop
+kind-of-requires c κs = search needs
+
+payload-of-requires : tie.Need-payload-of-requires Inv-loop μ-loop
+payload-of-requires c κs = search needs
 
 text-len-requires : tie.Need-text-len-requires Inv-loop μ-loop
 text-len-requires c κs = search needs
 
 add-sum : tie.Need-add-sum Inv-loop μ-loop
 add-sum c =
-    let sized = c .before .before .before .before .before .before .before .before .before .before .pre .0 in
+    let sized = c .before .before .before .before .before .before .before .before .before .before .before .pre .0 in
     omega (arith, len-is c .1, sized .used)
 
 broken-requires-3 : tie.Need-broken-requires-3 Inv-loop μ-loop
@@ -106,37 +109,40 @@ broken-requires-3 c κs = search needs
 returns-3 : tie.Need-returns-3 Inv-loop μ-loop
 returns-3 c =
     let over = c .before in
-    let at-loop = over .before .before .before .before .before .before .before .before in
+    let at-loop = over .before .before .before .before .before .before .before .before .before in
     let l = len-is (over .before) .0 in
     measured-broken _ _ _ _ (c .broken3 .ensures) (sym (whole-is at-loop ∙ rest-over _ _ _ _ _ _ _ (omega arith) (rw l at (over .if3 .taken))))
+
+unpack-requires : tie.Need-unpack-requires Inv-loop μ-loop
+unpack-requires c κs = search needs
 
 shown-len-requires : tie.Need-shown-len-requires Inv-loop μ-loop
 shown-len-requires c κs = search needs
 
 -- what the turn adds to the visible length
 added : (c : tie.After-shown-len Inv-loop μ-loop) → (
-    let l = c .before .before .before .before .before .before .before .before .before in
+    let l = c .before .before .before .before .before .before .before .before .before .before .before in
     let m = now (l .before .before .before .args .items) in
     l .loop .len + c .shown-len .result + visible (chain (l .loop .k - 1) m (nextAt m (l .loop .at))) ≡ l .loop .len + visible (chain (l .loop .k) m (l .loop .at))
     )
 added c =
-    let l = c .before .before .before .before .before .before .before .before .before in
-    let e = rw (c .before .before .before .unpack .ensures) at (c .shown-len .ensures) in
+    let l = c .before .before .before .before .before .before .before .before .before .before .before in
+    let e = rw (c .before .unpack .ensures, c .before .before .before .before .before .kind-of .ensures, c .before .before .before .before .payload-of .ensures .0) at (c .shown-len .ensures) in
     omega (arith, e, visible-step (l .loop .k) (now (l .before .before .before .args .items)) (l .loop .at) (omega arith))
 
 -- no more than its units, or one
-little : (c : tie.After-shown-len Inv-loop μ-loop) → c .shown-len .result ≤ c .before .before .text-len .result + 1
+little : (c : tie.After-shown-len Inv-loop μ-loop) → c .shown-len .result ≤ c .before .before .before .text-len .result + 1
 little c =
-    let l = c .before .before .before .before .before .before .before .before .before in
+    let l = c .before .before .before .before .before .before .before .before .before .before .before in
     let met = itemAt (now (l .before .before .before .args .items)) (l .loop .at) in
-    let e = rw (c .before .before .before .unpack .ensures) at (c .shown-len .ensures) in
-    omega (arith, e, len-is (c .before .before) .0, shown-le (met .flags .dead) (met .what))
+    let e = rw (c .before .unpack .ensures, c .before .before .before .before .before .kind-of .ensures, c .before .before .before .before .payload-of .ensures .0) at (c .shown-len .ensures) in
+    omega (arith, e, len-is (c .before .before .before) .0, shown-le (met .flags .dead) (met .what))
 
 add-len : tie.Need-add-len Inv-loop μ-loop
 add-len c =
-    let l = c .before .before .before .before .before .before .before .before .before in
+    let l = c .before .before .before .before .before .before .before .before .before .before .before in
     let sized = l .before .before .before .pre .0 in
-    omega (arith, little c, len-is (c .before .before) .1, l .loop .inv .3, sized .used, sized .items)
+    omega (arith, little c, len-is (c .before .before .before) .1, l .loop .inv .3, sized .used, sized .items)
 
 sub-k : tie.Need-sub-k Inv-loop μ-loop
 sub-k c = omega arith
@@ -146,16 +152,16 @@ loop-less c = omega arith
 
 loop-again : tie.Need-loop-again Inv-loop μ-loop
 loop-again c =
-    let met = c .before .before in
-    let at-loop = met .before .before .before .before .before .before .before in
+    let met = c .before .before .before in
+    let at-loop = met .before .before .before .before .before .before .before .before in
     let a = at-loop .before .before .before .args in (
       omega arith,
       omega arith,
-      rw (len-is met .0, met .before .unpack .ensures) (
+      rw (len-is met .0, c .before .unpack .ensures) (
           sym (rest-step (a .h .items) _ _ _ (at-loop .loop .k) (at-loop .loop .at) (at-loop .loop .sum) (omega arith) (omega arith) (word-is met)) ∙ at-loop .loop .inv .2
           ),
       omega (arith, little c),
-      rw (met .before .unpack .ensures) (added c ∙ at-loop .loop .inv .4),
+      rw (c .before .unpack .ensures) (added c ∙ at-loop .loop .inv .4),
     )
 
 broken-requires-4 : tie.Need-broken-requires-4 Inv-loop μ-loop
@@ -207,11 +213,13 @@ walk-spec =
     word-ok-requires
     broken-requires-2
     returns-2
-    unpack-requires
+    kind-of-requires
+    payload-of-requires
     text-len-requires
     add-sum
     broken-requires-3
     returns-3
+    unpack-requires
     shown-len-requires
     add-len
     sub-k

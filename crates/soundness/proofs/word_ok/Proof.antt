@@ -22,16 +22,23 @@ returns-2 : tie.Need-returns-2
 returns-2 c =
     sym (word-false _ _ _ (rw (c .before .before .unpack .ensures) at (sym (c .before .flags-ok .ensures) ∙ not-true _ (c .if2 .taken))))
 
+kind-of-requires : tie.Need-kind-of-requires
+kind-of-requires c κs = search needs
+
+payload-of-requires : tie.Need-payload-of-requires
+payload-of-requires c κs = search needs
+
 content-ok-requires : tie.Need-content-ok-requires
 content-ok-requires c κs = search needs
 
 returns-3 : tie.Need-returns-3
 returns-3 c =
-    let f = c .before .before in
+    let put = c .before in
+    let f = put .before .before .before in
     let u = f .before in
     let range = sym (u .before .before .in-range .ensures) ∙ not-false _ (u .before .if1 .left) in
-    let flags = rw (u .unpack .ensures) at (sym (f .flags-ok .ensures) ∙ not-false _ (c .before .if2 .left)) in
-    rw (u .unpack .ensures) at (c .content-ok .ensures) ∙ sym (word-on _ _ _ range flags)
+    let flags = rw (u .unpack .ensures) at (sym (f .flags-ok .ensures) ∙ not-false _ (put .before .before .if2 .left)) in
+    rw (put .before .kind-of .ensures, put .payload-of .ensures .0) at (c .content-ok .ensures) ∙ sym (word-on _ _ _ range flags)
 
 pub word-ok-spec : {M : Type 1} → statement M
 word-ok-spec =
@@ -42,5 +49,7 @@ word-ok-spec =
     unpack-requires
     flags-ok-requires
     returns-2
+    kind-of-requires
+    payload-of-requires
     content-ok-requires
     returns-3)
