@@ -17,11 +17,11 @@ use Rattle.rules.specs.Places.{after}
 use Rattle.layout.specs.declared.head.Head.{Head}
 use Rattle.layout.specs.declared.word.Content.{Content}
 use Rattle.layout.specs.declared.word.Content.the-variants.{Text, Embed, Mark}
-use Rattle.layout.specs.Word.{whatOf, unpackOf}
+use Rattle.layout.specs.Word.{whatOf, unpackOf, liveMark}
 use Rattle.layout.specs.Chain.{itemAt, nextAt, chain, walks}
 use Rattle.layout.proofs.Links.{walks-parts}
 use Rattle.arena.specs.declared.Place.{Place}
-use Rattle.arena.specs.Places.{InRange, Neat, leftOf, inForce, Standing, passedForce, liveMark, forwardOf}
+use Rattle.arena.specs.Places.{InRange, Neat, leftOf, inForce, Standing, passedForce, forwardOf}
 use Rattle.arena.proofs.Carried.{after-append}
 
 -- an item by its parts
@@ -41,7 +41,7 @@ force-past L n c d a g t =
     one-past (after none L) n c d a g t ∙ ap (λ (e : Env). packed (asSet e)) (sym (after-append none L (itemOf n c d a g ∷ [])))
 
 -- only a live mark has to be passed
-told : (a : Attrs) (d : Bool) (c : Content) → cond (liveMark d c) (passedForce a false c) a ≡ passedForce a d c
+told : (a : Attrs) (d : Bool) (c : Content) → cond (liveMark d (whatOf c)) (passedForce a false c) a ≡ passedForce a d c
 unfolding passedForce
 told a true c = refl
 told a false (Text s l) = refl
@@ -49,7 +49,7 @@ told a false (Embed x) = refl
 told a false (Mark k v) = refl
 
 pub forward-told : (m : List ℕ) (p : Place) (b : Bool) → let it = unpackOf (getD m (p .right) 0) in
-    liveMark (it .dead) (it .content) ≡ b
+    liveMark (it .dead) (whatOf (it .content)) ≡ b
     → record { left = p .right; right = it .next; todo = p .todo - 1; force = cond b (passedForce (p .force) false (it .content)) (p .force) } ≡ forwardOf m p
 forward-told m p b e =
     let it = unpackOf (getD m (p .right) 0) in

@@ -1,18 +1,18 @@
 -- Places in a working copy of a sheet's items, and what it means that code carries a rule out there.
 use Prim.Native.Nat.{ℕ, suc, _+_, _-_, _/_, _%_, _<_, _≤_}
 use mathlib.Core.Path.{_≡_}
-use mathlib.Core.Bool.{Bool, true, false, cond}
+use mathlib.Core.Bool.{Bool, true, false}
 use mathlib.Core.List.{List, [], _∷_}
 use lib.ListN.{length, getD, take, drop}
 use Rattle.attrs.specs.declared.Attrs.{Attrs}
 use Rattle.sets.specs.Sets.{empty, none, asSet}
 use Rattle.attrs.specs.Packed.{packed, updateAt}
-use Rattle.rules.specs.Sheet.{Item, isMark, like, kill, width}
+use Rattle.rules.specs.Sheet.{Item, like, kill, width}
 use Rattle.rules.specs.Places.{At, Move, stay, over, after, andThen, leftHalf, rightHalf, place}
 use Rattle.layout.specs.declared.head.Head.{Head}
 use Rattle.layout.specs.declared.word.Content.{Content}
 use Rattle.layout.specs.declared.word.Content.the-variants.{Text, Embed, Mark}
-use Rattle.layout.specs.Word.{whatOf, unpackOf}
+use Rattle.layout.specs.Word.{unpackOf}
 use Rattle.layout.specs.Chain.{END, itemAt, chain, walks, headOr, lastOr}
 use Rattle.arena.specs.declared.Place.{Place}
 
@@ -83,10 +83,6 @@ passedForce a true c = a
 passedForce a false (Text s l) = a
 passedForce a false (Embed n) = a
 passedForce a false (Mark k v) = updateAt a k v .attrs
-
--- Only such an item changes it.
-abbrev pub liveMark : Bool → Content → Bool
-liveMark d c = cond d false (isMark (whatOf c))
 
 -- The place behind the item right of a place.
 abbrev pub forwardOf : List ℕ → Place → Place

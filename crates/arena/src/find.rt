@@ -4,10 +4,10 @@ ghost use Rattle.arena.specs.Places.{SIZE, Arena, Carried, startOf, plac
 use crate::At;
 use crate::Place;
 use crate::forward;
-use crate::is_live_mark;
 use crate::passed;
 use crate::writes::split;
 use layout::head::Head;
+use layout::word::is_live_mark;
 use layout::word::shown_len;
 use layout::word::unpack;
 

@@ -3,11 +3,11 @@ ghost use mathlib.Core.Path.{_≡_};
 ghost use mathlib.Core.Bool.{false};
 ghost use Prim.Native.Nat.{_-_, _<_, _≤_};
 ghost use lib.ListN.{length};
-ghost use Rattle.arena.specs.Places.{startOf, passedForce, liveMark, forwardOf, keptPlace};
+ghost use Rattle.arena.specs.Places.{startOf, passedForce, forwardOf, keptPlace};
 use attrs::Attrs;
 use layout::head::Head;
 use layout::word::Content;
-use layout::word::Item;
+use layout::word::is_live_mark;
 use layout::word::unpack;
 
 pub mod writes; // what is written into it
@@ -65,21 +65,6 @@ fn passed(force: Attrs, content: Content) -> Attrs
         Content::Text { start: _, len: _ } => force,
         Content::Embed(_) => force,
         Content::Mark { key, value } => force.update_current_attributes(key, value).attrs,
-    }
-}
-
-// Only such an item changes what is in force.
-fn is_live_mark(it: Item) -> bool
-    ensures { λ r. ⌜ r ≡ liveMark (it .dead) (it .content) ⌝ }
-{
-    if it.dead {
-        return false;
-    }
-    let c = it.content;
-    match c {
-        Content::Text { start: _, len: _ } => false,
-        Content::Embed(_) => false,
-        Content::Mark { key: _, value: _ } => true,
     }
 }
 

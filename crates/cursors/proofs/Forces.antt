@@ -1,7 +1,7 @@
 -- What is in force, as a set by value. Assumes nothing.
 use Prim.Native.Nat.{ℕ, _<_}
 use mathlib.Core.Path.{_≡_, refl, sym, ap, ap₂, _∙_}
-use mathlib.Core.Bool.{Bool, true, false}
+use mathlib.Core.Bool.{Bool, true, false, cond}
 use lib.Dec.{eqb}
 use lib.ListN.{length}
 use borrow.Author.Tests.{eqb-true}
@@ -17,6 +17,7 @@ use Rattle.attrs.proofs.Force.{within-keyed, env-update, env-packed, update-pac
 use Rattle.rules.specs.Sheet.{What, text, embed, mark, Item}
 use Rattle.rules.specs.Reading.{live, passKey}
 use Rattle.rules.specs.Sound.{Fits}
+use Rattle.layout.specs.Word.{liveMark}
 use Rattle.cursors.specs.Cursors.{markOn, passedBy, Plain}
 
 -- nothing is in force at the start
@@ -27,6 +28,17 @@ pub plain-none : Plain (packed empty)
 plain-none = sym (ap (λ (e : Env). packed (asSet e)) env-none)
 
 -- ---- an item is passed
+
+-- only at a live mark something changes
+pub mark-told : (a : Attrs) (d : Bool) (w : What) (b : Bool) → liveMark d w ≡ b → passedBy a d w ≡ cond b (markOn a w) a
+unfolding passedBy markOn
+mark-told a d w b e = go d w ∙ ap (λ (x : Bool). cond x (markOn a w) a) e
+  where
+    go : (d : Bool) (w : What) → passedBy a d w ≡ cond (liveMark d w) (markOn a w) a
+    go true w = refl
+    go false (text s n) = refl
+    go false (embed x) = refl
+    go false (mark k v) = refl
 
 module _ (a : Attrs) (used : ℕ) where
   plain-update : (k v : ℕ) → k < 16 → v < 256 → Plain a → Plain (updateAt a k v .attrs)

@@ -4,13 +4,13 @@ use attrs::Attrs;
 use layout::head::Head;
 use layout::word::Content;
 use layout::word::Item;
+use layout::word::is_live_mark;
 use layout::word::shown_len;
 use layout::word::unpack;
 ghost use mathlib.Core.Path.{_≡_};
 ghost use Prim.Native.Nat.{_+_, _<_};
-ghost use Rattle.layout.specs.Word.{shownLen};
-ghost use Rattle.layout.specs.Word.{whatOf};
-ghost use Rattle.cursors.specs.Cursors.{passesOf, markOn, passedBy, stopsAt, endsBy, pastOf, textRecord, embedRecord, startOf, Stands, Skipped, Gathered, Next};
+ghost use Rattle.layout.specs.Word.{whatOf, shownLen};
+ghost use Rattle.cursors.specs.Cursors.{passesOf, markOn, stopsAt, endsBy, pastOf, textRecord, embedRecord, startOf, Stands, Skipped, Gathered, Next};
 
 // A place in the list: the next item and how many are left with it, the visible units to its left, and what is in force there.
 pub struct Spot {
@@ -70,17 +70,6 @@ fn mark_on(force: Attrs, c: Content) -> Attrs
     }
 }
 
-// What is in force behind an item.
-fn passed(force: Attrs, it: Item) -> Attrs
-    ensures { λ r. ⌜ r ≡ passedBy force (it .dead) (whatOf (it .content)) ⌝ }
-{
-    if it.dead {
-        return force;
-    }
-    let c = it.content;
-    mark_on(force, c)
-}
-
 fn stops(joined: bool, same: bool, c: Content) -> bool
     ensures { λ r. ⌜ r ≡ stopsAt joined same (whatOf c) ⌝ }
 {
@@ -108,14 +97,16 @@ fn past(s: Spot, it: Item) -> Spot
     requires { ⌜ s .passed + shownLen (it .dead) (whatOf (it .content)) < 4294967296 ⌝ }
     ensures { λ r. ⌜ r ≡ pastOf s it ⌝ }
 {
-    let before = s.force;
-    let force = passed(before, it);
-    Spot {
-        at: it.next,
-        todo: s.todo - 1,
-        passed: s.passed + shown_len(it),
-        force,
+    let mut r = s;
+    r.at = it.next;
+    r.todo = s.todo - 1;
+    r.passed = s.passed + shown_len(it);
+    if is_live_mark(it) {
+        let before = s.force;
+        let content = it.content;
+        r.force = mark_on(before, content);
     }
+    r
 }
 
 // To the next text or embed, or to the end.

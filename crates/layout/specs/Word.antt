@@ -1,8 +1,8 @@
 -- An item's word: what it says, and how it is made.
 use Prim.Native.Nat.{ℕ, _+_, _*_, _/_, _%_, _<_}
-use mathlib.Core.Bool.{Bool, true, false, cond, _&&_}
+use mathlib.Core.Bool.{Bool, true, false, cond, not, _&&_}
 use lib.Dec.{eqb, ltb}
-use Rattle.rules.specs.Sheet.{What, text, embed, mark, width}
+use Rattle.rules.specs.Sheet.{What, text, embed, mark, isMark, width}
 use Rattle.layout.specs.declared.word.Content.{Content}
 use Rattle.layout.specs.declared.word.Content.the-variants.{Text, Embed, Mark}
 use Rattle.layout.specs.declared.word.Item.{Item}
@@ -74,3 +74,7 @@ inRange w = ltb w 562949953421312 && ltb (w / 4096 % 4) 3
 -- What an item adds to the visible length.
 abbrev pub shownLen : Bool → What → ℕ
 shownLen dead w = cond dead 0 (width w)
+
+-- Only such an item changes what is in force.
+abbrev pub liveMark : Bool → What → Bool
+liveMark dead w = not dead && isMark w

@@ -2,7 +2,7 @@
 ghost use mathlib.Core.Path.{_≡_};
 ghost use Prim.Native.Nat.{_<_, _≤_};
 ghost use Rattle.rules.specs.Sheet.{width, isMark};
-ghost use Rattle.layout.specs.Word.{whatOf, contentFrom, unpackOf, kindOf, payloadOf, flagOf, packOf, relinkOf, inRange, kindIn, payloadIn, shownLen};
+ghost use Rattle.layout.specs.Word.{whatOf, contentFrom, unpackOf, kindOf, payloadOf, flagOf, packOf, relinkOf, inRange, kindIn, payloadIn, shownLen, liveMark};
 
 pub enum Content {
     Text { start: u32, len: u32 },
@@ -151,4 +151,15 @@ pub fn shown_len(it: Item) -> u32
     }
     let c = it.content;
     width(c)
+}
+
+// Only such an item changes what is in force.
+pub fn is_live_mark(it: Item) -> bool
+    ensures { λ r. ⌜ r ≡ liveMark (it .dead) (whatOf (it .content)) ⌝ }
+{
+    if !it.dead {
+        let c = it.content;
+        return is_mark(c);
+    }
+    false
 }
