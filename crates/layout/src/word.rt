@@ -1,4 +1,4 @@
-// An item and the word that holds it. The word is taken apart and put together here and nowhere else.
+// An item and the word that holds it. Words are taken apart and put together here; only the walk of soundness reads a payload itself.
 ghost use mathlib.Core.Path.{_≡_};
 ghost use Prim.Native.Nat.{_<_, _≤_};
 ghost use Rattle.rules.specs.Sheet.{width, isMark};
