@@ -59,21 +59,31 @@ fn content_of(k: u64, p: u64) -> Content
     }
 }
 
-pub fn unpack(w: u64) -> Item
-    ensures { λ r. ⌜ r ≡ unpackOf w ⌝ }
+// The parts of a word one by one, also for a walk that has no use for the item itself.
+pub fn next_of(w: u64) -> u32
+    ensures { λ r. ⌜ r ≡ unpackOf w .next ⌝ }
 {
-    let q = w / 4096;
-    let content = content_of(q % 4, q / 32 % 4294967296);
-    Item {
-        next: (w % 4096) as u32,
-        content,
-        dead: q / 4 % 2 == 1,
-        added: q / 8 % 2 == 1,
-        gone: q / 16 % 2 == 1,
-    }
+    (w % 4096) as u32
 }
 
-// The kind and the payload in a word, for a walk that has no use for the item itself.
+pub fn dead_of(w: u64) -> bool
+    ensures { λ r. ⌜ r ≡ unpackOf w .dead ⌝ }
+{
+    w / 4096 / 4 % 2 == 1
+}
+
+pub fn added_of(w: u64) -> bool
+    ensures { λ r. ⌜ r ≡ unpackOf w .added ⌝ }
+{
+    w / 4096 / 8 % 2 == 1
+}
+
+pub fn gone_of(w: u64) -> bool
+    ensures { λ r. ⌜ r ≡ unpackOf w .gone ⌝ }
+{
+    w / 4096 / 16 % 2 == 1
+}
+
 pub fn kind_of(w: u64) -> u64
     ensures { λ r. ⌜ r ≡ kindIn w ⌝ }
 {
@@ -84,6 +94,19 @@ pub fn payload_of(w: u64) -> u64
     ensures { λ r. ⌜ (r ≡ payloadIn w) × (r < 4294967296) ⌝ }
 {
     w / 4096 / 32 % 4294967296
+}
+
+pub fn unpack(w: u64) -> Item
+    ensures { λ r. ⌜ r ≡ unpackOf w ⌝ }
+{
+    let content = content_of(kind_of(w), payload_of(w));
+    Item {
+        next: next_of(w),
+        content,
+        dead: dead_of(w),
+        added: added_of(w),
+        gone: gone_of(w),
+    }
 }
 
 fn kind(c: Content) -> u64

@@ -1,9 +1,12 @@
 // Whether a lent sheet is sound.
 use layout::head::Head;
+use layout::word::added_of;
+use layout::word::dead_of;
+use layout::word::gone_of;
 use layout::word::in_range;
 use layout::word::kind_of;
+use layout::word::next_of;
 use layout::word::payload_of;
-use layout::word::unpack;
 ghost use mathlib.Core.Path.{_≡_};
 ghost use Prim.Native.Nat.{_<_, _≤_};
 ghost use lib.ListN.{length};
@@ -67,8 +70,7 @@ fn word_ok(w: u64, units: &[u16], used: u32, plain: bool) -> bool
     if !in_range(w) {
         return false;
     }
-    let it = unpack(w);
-    if !flags_ok(it.dead, it.added, it.gone) {
+    if !flags_ok(dead_of(w), added_of(w), gone_of(w)) {
         return false;
     }
     content_ok(kind_of(w), payload_of(w), units, used, plain)
@@ -143,9 +145,8 @@ fn walk(h: Head, items: &[u64], units: &[u16], plain: bool) -> Measured
         if sum > used {
             return Measured::broken();
         }
-        let it = unpack(w);
-        len += shown_len(it.dead, kind, payload);
-        at = it.next;
+        len += shown_len(dead_of(w), kind, payload);
+        at = next_of(w);
         k -= 1;
     }
     if at != Head::END {

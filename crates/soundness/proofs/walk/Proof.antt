@@ -113,8 +113,8 @@ returns-3 c =
     let l = len-is (over .before) .0 in
     measured-broken _ _ _ _ (c .broken3 .ensures) (sym (whole-is at-loop ∙ rest-over _ _ _ _ _ _ _ (omega arith) (rw l at (over .if3 .taken))))
 
-unpack-requires : tie.Need-unpack-requires Inv-loop μ-loop
-unpack-requires c κs = search needs
+dead-of-requires : tie.Need-dead-of-requires Inv-loop μ-loop
+dead-of-requires c κs = search needs
 
 shown-len-requires : tie.Need-shown-len-requires Inv-loop μ-loop
 shown-len-requires c κs = search needs
@@ -127,7 +127,7 @@ added : (c : tie.After-shown-len Inv-loop μ-loop) → (
     )
 added c =
     let l = c .before .before .before .before .before .before .before .before .before .before .before in
-    let e = rw (c .before .unpack .ensures, c .before .before .before .before .before .kind-of .ensures, c .before .before .before .before .payload-of .ensures .0) at (c .shown-len .ensures) in
+    let e = rw (c .before .dead-of .ensures, c .before .before .before .before .before .kind-of .ensures, c .before .before .before .before .payload-of .ensures .0) at (c .shown-len .ensures) in
     omega (arith, e, visible-step (l .loop .k) (now (l .before .before .before .args .items)) (l .loop .at) (omega arith))
 
 -- no more than its units, or one
@@ -135,7 +135,7 @@ little : (c : tie.After-shown-len Inv-loop μ-loop) → c .shown-len .result ≤
 little c =
     let l = c .before .before .before .before .before .before .before .before .before .before .before in
     let met = itemAt (now (l .before .before .before .args .items)) (l .loop .at) in
-    let e = rw (c .before .unpack .ensures, c .before .before .before .before .before .kind-of .ensures, c .before .before .before .before .payload-of .ensures .0) at (c .shown-len .ensures) in
+    let e = rw (c .before .dead-of .ensures, c .before .before .before .before .before .kind-of .ensures, c .before .before .before .before .payload-of .ensures .0) at (c .shown-len .ensures) in
     omega (arith, e, len-is (c .before .before .before) .0, shown-le (met .flags .dead) (met .what))
 
 add-len : tie.Need-add-len Inv-loop μ-loop
@@ -143,6 +143,9 @@ add-len c =
     let l = c .before .before .before .before .before .before .before .before .before .before .before in
     let sized = l .before .before .before .pre .0 in
     omega (arith, little c, len-is (c .before .before .before) .1, l .loop .inv .3, sized .used, sized .items)
+
+next-of-requires : tie.Need-next-of-requires Inv-loop μ-loop
+next-of-requires c κs = search needs
 
 sub-k : tie.Need-sub-k Inv-loop μ-loop
 sub-k c = omega arith
@@ -152,16 +155,20 @@ loop-less c = omega arith
 
 loop-again : tie.Need-loop-again Inv-loop μ-loop
 loop-again c =
-    let met = c .before .before .before in
-    let at-loop = met .before .before .before .before .before .before .before .before in
+    let shown = c .before in
+    let met = shown .before .before .before in
+    let used = met .before .before .before .before .before .before in
+    let turn = used .before in
+    let at-loop = turn .before in
+    let more = turn .loop-test .taken in
     let a = at-loop .before .before .before .args in (
       omega arith,
       omega arith,
-      rw (len-is met .0, c .before .unpack .ensures) (
-          sym (rest-step (a .h .items) _ _ _ (at-loop .loop .k) (at-loop .loop .at) (at-loop .loop .sum) (omega arith) (omega arith) (word-is met)) ∙ at-loop .loop .inv .2
+      rw (len-is met .0, c .next-of .ensures) (
+          sym (rest-step (a .h .items) _ _ _ (at-loop .loop .k) (at-loop .loop .at) (at-loop .loop .sum) (omega (arith, more)) (omega (arith, used .if1 .left)) (word-is met)) ∙ at-loop .loop .inv .2
           ),
-      omega (arith, little c),
-      rw (c .before .unpack .ensures) (added c ∙ at-loop .loop .inv .4),
+      omega (arith, little shown, more, at-loop .loop .inv .0, at-loop .loop .inv .3),
+      rw (c .next-of .ensures) (added shown ∙ at-loop .loop .inv .4),
     )
 
 broken-requires-4 : tie.Need-broken-requires-4 Inv-loop μ-loop
@@ -219,9 +226,10 @@ walk-spec =
     add-sum
     broken-requires-3
     returns-3
-    unpack-requires
+    dead-of-requires
     shown-len-requires
     add-len
+    next-of-requires
     sub-k
     loop-less
     loop-again

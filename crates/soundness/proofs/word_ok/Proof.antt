@@ -12,15 +12,23 @@ in-range-requires c κs = search needs
 returns : tie.Need-returns
 returns c = sym (word-off _ _ _ (sym (c .before .in-range .ensures) ∙ not-true _ (c .if1 .taken)))
 
-unpack-requires : tie.Need-unpack-requires
-unpack-requires c κs = search needs
+dead-of-requires : tie.Need-dead-of-requires
+dead-of-requires c κs = search needs
+
+added-of-requires : tie.Need-added-of-requires
+added-of-requires c κs = search needs
+
+gone-of-requires : tie.Need-gone-of-requires
+gone-of-requires c κs = search needs
 
 flags-ok-requires : tie.Need-flags-ok-requires
 flags-ok-requires c κs = search needs
 
 returns-2 : tie.Need-returns-2
 returns-2 c =
-    sym (word-false _ _ _ (rw (c .before .before .unpack .ensures) at (sym (c .before .flags-ok .ensures) ∙ not-true _ (c .if2 .taken))))
+    let f = c .before in
+    let g = f .before in
+    sym (word-false _ _ _ (rw (g .gone-of .ensures, g .before .added-of .ensures, g .before .before .dead-of .ensures) at (sym (f .flags-ok .ensures) ∙ not-true _ (c .if2 .taken))))
 
 kind-of-requires : tie.Need-kind-of-requires
 kind-of-requires c κs = search needs
@@ -35,9 +43,10 @@ returns-3 : tie.Need-returns-3
 returns-3 c =
     let put = c .before in
     let f = put .before .before .before in
-    let u = f .before in
-    let range = sym (u .before .before .in-range .ensures) ∙ not-false _ (u .before .if1 .left) in
-    let flags = rw (u .unpack .ensures) at (sym (f .flags-ok .ensures) ∙ not-false _ (put .before .before .if2 .left)) in
+    let g = f .before in
+    let u = g .before .before .before in
+    let range = sym (u .before .in-range .ensures) ∙ not-false _ (u .if1 .left) in
+    let flags = rw (g .gone-of .ensures, g .before .added-of .ensures, g .before .before .dead-of .ensures) at (sym (f .flags-ok .ensures) ∙ not-false _ (put .before .before .if2 .left)) in
     rw (put .before .kind-of .ensures, put .payload-of .ensures .0) at (c .content-ok .ensures) ∙ sym (word-on _ _ _ range flags)
 
 pub word-ok-spec : {M : Type 1} → statement M
@@ -46,7 +55,9 @@ word-ok-spec =
     (tie.spec
     in-range-requires
     returns
-    unpack-requires
+    dead-of-requires
+    added-of-requires
+    gone-of-requires
     flags-ok-requires
     returns-2
     kind-of-requires
