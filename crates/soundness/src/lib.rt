@@ -1,4 +1,4 @@
-// Whether a lent sheet is sound.
+// Whether a lent sheet is sound, and how long it is.
 use layout::head::Head;
 use layout::word::added_of;
 use layout::word::dead_of;
