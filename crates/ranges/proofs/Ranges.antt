@@ -6,7 +6,7 @@ use mathlib.Core.Bool.{Bool, true, false, cond, not}
 use mathlib.Core.List.{List, [], _∷_, _++_, map}
 use lib.Dec.{leb}
 use lib.ListN.{length, take, drop, length-append, length-take, length-drop}
-use lib.Seq.{getD-take}
+use lib.Seq.{getD-take, take-all}
 use borrow.Author.Tests.{le-leb, lt-leb, leb-true}
 use Rattle.rules.specs.Sheet.{What, text, embed, mark, width, Item}
 use Rattle.rules.specs.Reading.{unitsOf, visible}
@@ -81,10 +81,6 @@ fit-take : (n : ℕ) (xs : List ℕ) → take (length (take n xs)) xs ≡ take n
 fit-take zero xs = refl
 fit-take (suc n) [] = refl
 fit-take (suc n) (x ∷ xs) = ap (λ (l : List ℕ). x ∷ l) (fit-take n xs)
-
-all-take : (xs : List ℕ) → take (length xs) xs ≡ xs
-all-take [] = refl
-all-take (x ∷ xs) = ap (λ (l : List ℕ). x ∷ l) (all-take xs)
 
 module _ (h : Head) (m u : List ℕ) (i n : ℕ) where
   shows-text : showing m u (place (h .first) (h .items) i) ≡ drop i (visibleIn h m u)
@@ -196,5 +192,5 @@ module _ (h : Head) (m u : List ℕ) (i n : ℕ) (ys : List ℕ) (r : Count) (is
             ap (take (r .count)) (shows-text h m u i n)
             ∙ ap (λ (x : ℕ). take x (drop i (visibleIn h m u))) (granted .1)
             ∙ fit-take n (drop i (visibleIn h m u))
-            ∙ sym (all-take (textIn h m u i n))
+            ∙ sym (take-all (length (textIn h m u i n)) (textIn h m u i n) (omega arith))
             ∙ ap (λ (x : ℕ). take x (textIn h m u i n)) (sym (granted .1))
