@@ -9,7 +9,7 @@ use Rattle.rules.specs.Places.{At, Move, after, and_then}
 use Rattle.laws.proofs.Places.{force-append}
 use Rattle.layout.specs.declared.head.Head.{Head}
 use Rattle.arena.specs.declared.Place.{Place}
-use Rattle.arena.specs.Places.{left_of, rightOf, placed, movedBy, Standing, Carried, Going, in_turn, staying}
+use Rattle.arena.specs.Places.{left_of, right_of, placed, moved_by, Standing, Carried, Going, in_turn, staying}
 
 -- ---- moves
 
@@ -17,8 +17,8 @@ use Rattle.arena.specs.Places.{left_of, rightOf, placed, movedBy, Standing, Carr
 pub after-append : (e : Env) (a b : List Item) → after e (a ++ b) ≡ after (after e a) b
 after-append e a b = fun_ext (λ k. force-append live k (e k) a b)
 
-pub then-assoc : (e : Env) (p : At) (f g : Move) → and_then e (and_then e p f) g ≡ and_then e p (in_turn f g)
-then-assoc e p f g =
+pub then_assoc : (e : Env) (p : At) (f g : Move) → and_then e (and_then e p f) g ≡ and_then e p (in_turn f g)
+then_assoc e p f g =
     let q = f (after e p.left) p.right p.next in
     let r : g (after e (p.left ++ q.left)) q.right q.next ≡ g (after (after e p.left) q.left) q.right q.next = ap (λ (x : Env). g x q.right q.next) (after-append e p.left q.left) in
     let s = g (after (after e p.left) q.left) q.right q.next in
@@ -29,8 +29,8 @@ pub then-stay : (e : Env) (p : At) → and_then e p staying ≡ p
 then-stay e p = ap (λ (l : List Item). record { left = l; right = p.right; next = p.next }) (append-nil p.left)
 
 -- a move that does the same here
-pub then-as : (e : Env) (p : At) (f g : Move) → f (after e p.left) p.right p.next ≡ g (after e p.left) p.right p.next → and_then e p f ≡ and_then e p g
-then-as e p f g s = ap (λ (a : At). record { left = p.left ++ a.left; right = a.right; next = a.next }) s
+pub then_as : (e : Env) (p : At) (f g : Move) → f (after e p.left) p.right p.next ≡ g (after e p.left) p.right p.next → and_then e p f ≡ and_then e p g
+then_as e p f g s = ap (λ (a : At). record { left = p.left ++ a.left; right = a.right; next = a.next }) s
 
 -- ---- carried out
 pub carried-stay : {h : Head} {m : List ℕ} {p : Place} → Standing h m p → Carried staying h m p h m p
@@ -41,28 +41,28 @@ module _ {h : Head} {m : List ℕ} {p : Place} {h₁ : Head} {m₁ : List ℕ} {
   carried-then {f} {g} c d =
       record {
         stands = d.stands;
-        moved = d.moved ∙ ap (λ (a : At). and_then none a g) c.moved ∙ then-assoc none (placed h m p) f g;
+        moved = d.moved ∙ ap (λ (a : At). and_then none a g) c.moved ∙ then_assoc none (placed h m p) f g;
         units = d.units ∙ c.units;
       }
 
   -- by a move that does the same from there
-  pub carried-as : {f : Move} (g : Move) → Carried f h m p h₁ m₁ p₁ → movedBy f h m p ≡ movedBy g h m p
+  pub carried-as : {f : Move} (g : Move) → Carried f h m p h₁ m₁ p₁ → moved_by f h m p ≡ moved_by g h m p
       → Carried g h m p h₁ m₁ p₁
-  carried-as {f} g c s = record { stands = c.stands; moved = c.moved ∙ then-as none (placed h m p) f g s; units = c.units }
+  carried-as {f} g c s = record { stands = c.stands; moved = c.moved ∙ then_as none (placed h m p) f g s; units = c.units }
 
   -- what stands right of the place reached
-  pub carried-right : {f : Move} → Carried f h m p h₁ m₁ p₁ → (r : List Item) → rightOf h m p ≡ r → rightOf h₁ m₁ p₁ ≡ (f (after none (left_of h m p)) r h.items).right
+  pub carried-right : {f : Move} → Carried f h m p h₁ m₁ p₁ → (r : List Item) → right_of h m p ≡ r → right_of h₁ m₁ p₁ ≡ (f (after none (left_of h m p)) r h.items).right
   carried-right {f} c r e = ap (λ (a : At). a.right) c.moved ∙ ap (λ (x : List Item). (f (after none (left_of h m p)) x h.items).right) e
 
   -- ---- on the way
   pub going_on : {f g k : Move} (g₂ : Move) {h₂ : Head} {m₂ : List ℕ} {p₂ : Place} → Going f h m p g h₁ m₁ p₁ → Carried k h₁ m₁ p₁ h₂ m₂ p₂
-      → movedBy g h₁ m₁ p₁ ≡ movedBy (in_turn k g₂) h₁ m₁ p₁
+      → moved_by g h₁ m₁ p₁ ≡ moved_by (in_turn k g₂) h₁ m₁ p₁
       → Going f h m p g₂ h₂ m₂ p₂
   going_on {f} {g} {k} g₂ o c s =
       let a = placed h₁ m₁ p₁ in
       record {
         stands = c.stands;
-        rest = ap (λ (x : At). and_then none x g₂) c.moved ∙ then-assoc none a k g₂ ∙ sym (then-as none a g (in_turn k g₂) s) ∙ o.rest;
+        rest = ap (λ (x : At). and_then none x g₂) c.moved ∙ then_assoc none a k g₂ ∙ sym (then_as none a g (in_turn k g₂) s) ∙ o.rest;
         units = c.units ∙ o.units;
       }
 

@@ -14,12 +14,12 @@ use Rattle.layout.specs.declared.head.Head.{Head}
 use Rattle.layout.specs.declared.word.Content.{Content}
 use Rattle.layout.specs.declared.word.Content.TheVariants.{Text, Embed, Mark}
 use Rattle.layout.specs.declared.word.Item.{Item}
-use Rattle.layout.specs.Word.{whatOf, unpackOf, packOf}
+use Rattle.layout.specs.Word.{what_of, unpack_of, pack_of}
 use Rattle.layout.specs.Chain.{item_at, next_at, chain, walks, head_or}
 use Rattle.layout.proofs.Links.{walks_parts}
 use Rattle.layout.proofs.Writes.{after_is, item-is}
 use Rattle.arena.specs.Places.{SIZE, Neat, Arena, list_of}
-use Rattle.arena.specs.Writes.{copied, contentOf, word_of}
+use Rattle.arena.specs.Writes.{copied, content_of, word_of}
 use Rattle.arena.proofs.Neat.{neat-word}
 
 -- ---- the copy, turn by turn
@@ -64,7 +64,7 @@ pub load-arena : (h : Head) (from to : List ℕ) → length to ≡ SIZE → h.it
 load-arena h from to l few k = record { long = k.long ∙ l; few = few; walk = k.walk; neat = k.neat }
 
 -- ---- the word of each item of the list
-content-back : (c : Content) → contentOf (whatOf c) ≡ c
+content-back : (c : Content) → content_of (what_of c) ≡ c
 content-back (Text s l) = refl
 content-back (Embed n) = refl
 content-back (Mark k v) = refl
@@ -74,6 +74,6 @@ word-is h m a L x R e =
     let n = h.items in
     let q = after_is n n m h.first L x R (omega (arith, a.few)) a.walk e in
     let w = get_or m x.num 0 in
-    let it = unpackOf w in
-    let back : word_of (item_at m x.num) it.next ≡ packOf it = ap (λ (c : Content). packOf (record { next = it.next; content = c; dead = it.dead; added = it.added; gone = it.gone })) (content-back it.content) in
+    let it = unpack_of w in
+    let back : word_of (item_at m x.num) it.next ≡ pack_of it = ap (λ (c : Content). pack_of (record { next = it.next; content = c; dead = it.dead; added = it.added; gone = it.gone })) (content-back it.content) in
     sym (neat-word w (a.neat x.num q.1)) ∙ sym back ∙ ap₂ word_of (item-is n m h.first L x R e) (sym q.0)

@@ -10,7 +10,7 @@ use Rattle.rules.specs.Places.{Move, stay, over, split, uses, place}
 use Rattle.layout.specs.declared.head.Head.{Head}
 use Rattle.layout.specs.Chain.{item_at}
 use Rattle.arena.specs.declared.Place.{Place}
-use Rattle.arena.specs.Places.{SIZE, rightOf, Carried, Going, Cuttable, forwardOf, staying, halving, placing}
+use Rattle.arena.specs.Places.{SIZE, right_of, Carried, Going, Cuttable, forward_of, staying, halving, placing}
 use Rattle.arena.proofs.Carried.{carried-then}
 use Rattle.arena.proofs.Steps.{forward-carried, cut-more}
 use Rattle.arena.proofs.Walks.{going-same, going_end, going-ahead, going-by, going-stopped}
@@ -43,18 +43,18 @@ uses-width n i h = go (dead i) h
 -- ---- the turns
 module _ {f : Move} {h : Head} {m : List ℕ} {p : Place} {r : ℕ} {h₁ : Head} {m₁ : List ℕ} {p₁ : Place} (o : Going f h m p (placing r) h₁ m₁ p₁) where
   pub found-zero : r ≡ 0 → Carried f h m p h₁ m₁ p₁
-  found-zero z = going-stopped (going-same o staying (ap (λ (n : ℕ). place n (rightOf h₁ m₁ p₁) h₁.items) z ∙ place-zero (rightOf h₁ m₁ p₁) h₁.items))
+  found-zero z = going-stopped (going-same o staying (ap (λ (n : ℕ). place n (right_of h₁ m₁ p₁) h₁.items) z ∙ place-zero (right_of h₁ m₁ p₁) h₁.items))
 
   pub found-end : p₁.todo ≤ 0 → Carried f h m p h₁ m₁ p₁
   found-end z = going-stopped (going_end o z staying (λ e n. place_end r n))
 
   module _ (more : 0 < p₁.todo) (some : r ≡ 0 → ⊥) where
-    pub found-past : uses (item_at m₁ p₁.right) ≤ r → (q : Place) → q ≡ forwardOf m₁ p₁ → Going f h m p (placing (r - uses (item_at m₁ p₁.right))) h₁ m₁ q
+    pub found-past : uses (item_at m₁ p₁.right) ≤ r → (q : Place) → q ≡ forward_of m₁ p₁ → Going f h m p (placing (r - uses (item_at m₁ p₁.right))) h₁ m₁ q
     found-past l q eq =
         let x = item_at m₁ p₁.right in
         going-ahead o more q eq (placing (r - uses x)) (λ e l' n. place-past r x l' n some l)
 
-    pub found-cut : r < uses (item_at m₁ p₁.right) → {h₂ : Head} {m₂ : List ℕ} {p₂ : Place} → Carried (halving r) h₁ m₁ p₁ h₂ m₂ p₂ → (q : Place) → q ≡ forwardOf m₂ p₂
+    pub found-cut : r < uses (item_at m₁ p₁.right) → {h₂ : Head} {m₂ : List ℕ} {p₂ : Place} → Carried (halving r) h₁ m₁ p₁ h₂ m₂ p₂ → (q : Place) → q ≡ forward_of m₂ p₂
         → Carried f h m p h₂ m₂ q
     found-cut l c q eq =
         let x = item_at m₁ p₁.right in

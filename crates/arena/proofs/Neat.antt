@@ -11,7 +11,7 @@ use borrow.Author.Tests.{eqb-true, eqb-false}
 use Rattle.layout.specs.declared.word.Content.{Content}
 use Rattle.layout.specs.declared.word.Content.TheVariants.{Text, Embed, Mark}
 use Rattle.layout.specs.declared.word.Item.{Item}
-use Rattle.layout.specs.Word.{contentFrom, unpackOf, kind_of, payloadOf, flagOf, rest_of, packOf, relinkOf, Fitting}
+use Rattle.layout.specs.Word.{content_from, unpack_of, kind_of, payload_of, flag_of, rest_of, pack_of, relink_of, Fitting}
 use Rattle.layout.proofs.Words.{kind-lt, payload_lt, flag-le, unpack-pack, pack-unpack, pack-rest, relink-rest}
 use Rattle.arena.specs.Places.{InRange, Neat}
 
@@ -27,32 +27,32 @@ rest_lt k d a g p hk hd ha hg hp = omega arith
 rest-kind : (k d a g p : ℕ) → k < 3 → (k + 4 * d + 8 * a + 16 * g + 32 * p) % 4 < 3
 rest-kind k d a g p hk = omega arith
 
-pub neat-pack : (it : Item) → it.next < 4096 → InRange it.content → Neat (packOf it)
+pub neat-pack : (it : Item) → it.next < 4096 → InRange it.content → Neat (pack_of it)
 neat-pack it l r =
     let c = it.content in
-    let d = flagOf it.dead in
-    let a = flagOf it.added in
-    let g = flagOf it.gone in
+    let d = flag_of it.dead in
+    let a = flag_of it.added in
+    let g = flag_of it.gone in
     let f = fits c r in
-    let q : packOf it / 4096 ≡ rest_of c it.dead it.added it.gone = pack-rest it l in
-    let b = rest_lt (kind_of c) d a g (payloadOf c) (kind-lt c) (flag-le it.dead) (flag-le it.added) (flag-le it.gone) (payload_lt c f) in
+    let q : pack_of it / 4096 ≡ rest_of c it.dead it.added it.gone = pack-rest it l in
+    let b = rest_lt (kind_of c) d a g (payload_of c) (kind-lt c) (flag-le it.dead) (flag-le it.added) (flag-le it.gone) (payload_lt c f) in
     record {
       small = omega (arith, b);
-      kind = subst⁻¹ (λ (x : ℕ). x % 4 < 3) q (rest-kind (kind_of c) d a g (payloadOf c) (kind-lt c));
+      kind = subst⁻¹ (λ (x : ℕ). x % 4 < 3) q (rest-kind (kind_of c) d a g (payload_of c) (kind-lt c));
       range = subst⁻¹ (λ (x : Item). InRange x.content) (unpack-pack it l f) r;
     }
 
-pub neat-relink : (w n : ℕ) → n < 4096 → Neat w → Neat (relinkOf w n)
+pub neat-relink : (w n : ℕ) → n < 4096 → Neat w → Neat (relink_of w n)
 neat-relink w n h t =
-    let q : relinkOf w n / 4096 ≡ w / 4096 = relink-rest w n h in
+    let q : relink_of w n / 4096 ≡ w / 4096 = relink-rest w n h in
     record {
       small = omega (arith, t.small);
       kind = subst⁻¹ (λ (x : ℕ). x % 4 < 3) q t.kind;
-      range = subst⁻¹ (λ (x : ℕ). InRange (contentFrom (x % 4) (x / 32 % 4294967296))) q t.range;
+      range = subst⁻¹ (λ (x : ℕ). InRange (content_from (x % 4) (x / 32 % 4294967296))) q t.range;
     }
 
 -- a neat word is the word of what it says
-pub neat-word : (w : ℕ) → Neat w → packOf (unpackOf w) ≡ w
+pub neat-word : (w : ℕ) → Neat w → pack_of (unpack_of w) ≡ w
 neat-word w t = pack-unpack w t.small t.kind
 
 -- ---- the used words of a buffer

@@ -1,14 +1,14 @@
 -- Places in a working copy of a sheet's items, and what it means that code carries a rule out there.
 use Rattle.std.specs.Prelude.{ℕ, suc, ◌+◌, ◌-◌, ◌/◌, ◌%◌, ◌<◌, ◌≤◌, ◌≡◌, Bool, true, false, List, [], ◌∷◌, length, get_or, take, drop}
 use Rattle.attrs.specs.declared.Attrs.{Attrs}
-use Rattle.sets.specs.Sets.{empty, none, asSet}
-use Rattle.attrs.specs.Packed.{packed, updateAt}
+use Rattle.sets.specs.Sets.{empty, none, as_set}
+use Rattle.attrs.specs.Packed.{packed, update_at}
 use Rattle.rules.specs.Sheet.{Item, like, kill, width}
 use Rattle.rules.specs.Places.{At, Move, stay, over, after, and_then, left_half, right_half, place}
 use Rattle.layout.specs.declared.head.Head.{Head}
 use Rattle.layout.specs.declared.word.Content.{Content}
 use Rattle.layout.specs.declared.word.Content.TheVariants.{Text, Embed, Mark}
-use Rattle.layout.specs.Word.{unpackOf}
+use Rattle.layout.specs.Word.{unpack_of}
 use Rattle.layout.specs.Chain.{END, item_at, chain, walks, head_or, last_or}
 use Rattle.arena.specs.declared.Place.{Place}
 
@@ -32,7 +32,7 @@ InRange (Mark k v) = (k < 16) × (v < 256)
 pub record Neat (w : ℕ) : Type 0 where
   pub small : w < 562949953421312
   pub kind : w / 4096 % 4 < 3
-  pub range : InRange (unpackOf w).content
+  pub range : InRange (unpack_of w).content
 
 -- The links reach each used item once and end, and each used word is neat.
 pub record Arena (h : Head) (m : List ℕ) : Type 0 where
@@ -50,51 +50,51 @@ list_of h m = chain h.items m h.first
 abbrev pub left_of : Head → List ℕ → Place → List Item
 left_of h m p = take (h.items - p.todo) (list_of h m)
 
-abbrev pub rightOf : Head → List ℕ → Place → List Item
-rightOf h m p = drop (h.items - p.todo) (list_of h m)
+abbrev pub right_of : Head → List ℕ → Place → List Item
+right_of h m p = drop (h.items - p.todo) (list_of h m)
 
 -- A place as the rules have it.
 abbrev pub placed : Head → List ℕ → Place → At
-placed h m p = record { left = left_of h m p; right = rightOf h m p; next = h.items }
+placed h m p = record { left = left_of h m p; right = right_of h m p; next = h.items }
 
 -- What is in force right of a list, as a set.
-unfoldable pub inForce : List Item → Attrs
-inForce l = packed (asSet (after none l))
+unfoldable pub in_force : List Item → Attrs
+in_force l = packed (as_set (after none l))
 
 -- A place's fields say what they should: its neighbours, how many items follow, and what is in force there.
 pub record Standing (h : Head) (m : List ℕ) (p : Place) : Type 0 where
   pub arena : Arena h m
   pub todo : p.todo ≤ h.items
   pub left : p.left ≡ last_or END (left_of h m p)
-  pub right : p.right ≡ head_or (rightOf h m p)
-  pub force : p.force ≡ inForce (left_of h m p)
+  pub right : p.right ≡ head_or (right_of h m p)
+  pub force : p.force ≡ in_force (left_of h m p)
 
 -- Before the first item, with nothing in force.
 abbrev pub start_of : Head → Place
 start_of h = record { left = END; right = h.first; todo = h.items; force = packed empty }
 
 -- What passing an item makes of what is in force.
-unfoldable pub passedForce : Attrs → Bool → Content → Attrs
-passedForce a true c = a
-passedForce a false (Text s l) = a
-passedForce a false (Embed n) = a
-passedForce a false (Mark k v) = (updateAt a k v).attrs
+unfoldable pub passed_force : Attrs → Bool → Content → Attrs
+passed_force a true c = a
+passed_force a false (Text s l) = a
+passed_force a false (Embed n) = a
+passed_force a false (Mark k v) = (update_at a k v).attrs
 
 -- The place behind the item right of a place.
-abbrev pub forwardOf : List ℕ → Place → Place
-forwardOf m p =
-    let it = unpackOf (get_or m p.right 0) in
-    record { left = p.right; right = it.next; todo = p.todo - 1; force = passedForce p.force it.dead it.content }
+abbrev pub forward_of : List ℕ → Place → Place
+forward_of m p =
+    let it = unpack_of (get_or m p.right 0) in
+    record { left = p.right; right = it.next; todo = p.todo - 1; force = passed_force p.force it.dead it.content }
 
 -- The same place once items were put in right of it: as many stand left of it as before.
-abbrev pub keptPlace : Place → Head → Head → Place
-keptPlace p h h₁ = record { left = p.left; right = p.right; todo = h₁.items - (h.items - p.todo); force = p.force }
+abbrev pub kept_place : Place → Head → Head → Place
+kept_place p h h₁ = record { left = p.left; right = p.right; todo = h₁.items - (h.items - p.todo); force = p.force }
 
 -- ---- a rule carried out
 
 -- What a move makes of what is right of a place.
-abbrev pub movedBy : Move → Head → List ℕ → Place → At
-movedBy f h m p = f (after none (left_of h m p)) (rightOf h m p) h.items
+abbrev pub moved_by : Move → Head → List ℕ → Place → At
+moved_by f h m p = f (after none (left_of h m p)) (right_of h m p) h.items
 
 -- From one head, copy and place to others, the rule's move was carried out, item by item.
 abbrev pub Moved : Move → Head → List ℕ → Place → Head → List ℕ → Place → Type 0

@@ -1,6 +1,6 @@
 // A working copy of a sheet's items, with room to spare, and the places in it.
 ghost use Rattle.std.specs.Prelude.{◌≡◌, false, ◌-◌, ◌<◌, ◌≤◌, length};
-ghost use Rattle.arena.specs.Places.{start_of, passedForce, forwardOf, keptPlace};
+ghost use Rattle.arena.specs.Places.{start_of, passed_force, forward_of, kept_place};
 
 use attrs::Attrs;
 use layout::head::Head;
@@ -36,7 +36,7 @@ impl Place {
     // The same place once items were put in right of it: as many stand left of it as before.
     pub fn kept(self, before: Head, after: Head) -> Place
         requires { (self.todo ≤ before.items) × (before.items - self.todo ≤ after.items) }
-        ensures { result ≡ keptPlace self before after }
+        ensures { result ≡ kept_place self before after }
     {
         let force = self.force;
         Place {
@@ -57,7 +57,7 @@ pub struct At {
 
 // What is in force behind a live item.
 fn passed(force: Attrs, content: Content) -> Attrs
-    ensures { result ≡ passedForce force false content }
+    ensures { result ≡ passed_force force false content }
 {
     match content {
         Content::Text { start: _, len: _ } => force,
@@ -69,7 +69,7 @@ fn passed(force: Attrs, content: Content) -> Attrs
 // The place behind the item right of a place.
 pub fn forward(items: &[u64], p: Place) -> Place
     requires { (0 < p.todo) × (p.right < length items.now) }
-    ensures { result ≡ forwardOf items.now p }
+    ensures { result ≡ forward_of items.now p }
 {
     let i = p.right as usize;
     let it = unpack(items[i]);

@@ -1,9 +1,9 @@
 // What is written into a working copy: an item put in, a text split, an item deleted.
 ghost use Rattle.std.specs.Prelude.{◌≡◌, ◌<◌, length, get_or};
-ghost use Rattle.rules.specs.Edits.{putNew};
-ghost use Rattle.layout.specs.Word.{whatOf, unpackOf};
+ghost use Rattle.rules.specs.Edits.{put_new};
+ghost use Rattle.layout.specs.Word.{what_of, unpack_of};
 ghost use Rattle.arena.specs.Places.{SIZE, Linkable, Carried, Puttable, Cuttable, halving};
-ghost use Rattle.arena.specs.Writes.{putMem, putHead, killMem, leftText, rightText, Within, cutMem, cutHead};
+ghost use Rattle.arena.specs.Writes.{put_mem, put_head, kill_mem, left_text, right_text, Within, cut_mem, cut_head};
 
 use crate::{At, Place, passed};
 use layout::head::Head;
@@ -12,7 +12,7 @@ use layout::word::{Content, Item, pack, relink, unpack};
 // A new item between two neighbours, or before the first.
 fn put_after(h: Head, items: &mut [u64], left: u32, right: u32, content: Content) -> Head
     requires { (h.items < SIZE) × (length items.old ≡ SIZE) × Linkable left }
-    ensures { (result ≡ putHead h left) × (items.new ≡ putMem items.old h.items left right content) }
+    ensures { (result ≡ put_head h left) × (items.new ≡ put_mem items.old h.items left right content) }
 {
     let n = h.items;
     let at = n as usize;
@@ -37,7 +37,7 @@ fn put_after(h: Head, items: &mut [u64], left: u32, right: u32, content: Content
 // A new item at the place, which is then right of it.
 pub fn put(h: Head, items: &mut [u64], p: Place, content: Content) -> At
     requires { Puttable h items.old p content }
-    ensures { Carried (putNew (whatOf content)) h items.old p result.head items.new result.place }
+    ensures { Carried (put_new (what_of content)) h items.old p result.head items.new result.place }
 {
     let head = put_after(h, items, p.left, p.right, content);
     let before = p.force;
@@ -56,7 +56,7 @@ pub fn put(h: Head, items: &mut [u64], p: Place, content: Content) -> At
 // An item is dead, and gone in this transaction.
 pub fn delete(items: &mut [u64], n: u32)
     requires { n < length items.old }
-    ensures { items.new ≡ killMem items.old n }
+    ensures { items.new ≡ kill_mem items.old n }
 {
     let i = n as usize;
     let it = unpack(items[i]);
@@ -71,7 +71,7 @@ pub fn delete(items: &mut [u64], n: u32)
 }
 
 fn left_half(c: Content, n: u32) -> Content
-    ensures { result ≡ leftText n c }
+    ensures { result ≡ left_text n c }
 {
     match c {
         Content::Text { start, len: _ } => Content::Text { start, len: n },
@@ -82,7 +82,7 @@ fn left_half(c: Content, n: u32) -> Content
 
 fn right_half(c: Content, n: u32) -> Content
     requires { Within n c }
-    ensures { result ≡ rightText n c }
+    ensures { result ≡ right_text n c }
 {
     match c {
         Content::Text { start, len } => {
@@ -98,8 +98,8 @@ fn right_half(c: Content, n: u32) -> Content
 
 // The text of item x cut in two after n units. The right half takes the next number.
 fn cut(h: Head, items: &mut [u64], x: u32, n: u32) -> Head
-    requires { (h.items < SIZE) × (length items.old ≡ SIZE) × (x < SIZE) × Within n (unpackOf (get_or items.old x 0)).content }
-    ensures { (result ≡ cutHead h) × (items.new ≡ cutMem items.old h.items x n) }
+    requires { (h.items < SIZE) × (length items.old ≡ SIZE) × (x < SIZE) × Within n (unpack_of (get_or items.old x 0)).content }
+    ensures { (result ≡ cut_head h) × (items.new ≡ cut_mem items.old h.items x n) }
 {
     let new = h.items;
     let i = x as usize;

@@ -4,31 +4,31 @@ use native.Mathlib.Omega.{arith}
 use mathlib.Core.Path.{◌≡◌, refl, ap, ◌∙◌}
 use mathlib.Core.Bool.{true, false, not}
 use Rattle.attrs.specs.declared.Attrs.{Attrs}
-use Rattle.sets.specs.Sets.{Slot, absent, is, isAbsent, lay}
-use Rattle.attrs.specs.Packed.{says, envOf}
-use Rattle.attrs.proofs.Says.{envOf-says}
+use Rattle.sets.specs.Sets.{Slot, absent, is, is_absent, lay}
+use Rattle.attrs.specs.Packed.{says, env_of}
+use Rattle.attrs.proofs.Says.{env_of-says}
 use Rattle.rules.specs.Event.{change}
 use Rattle.assembling.specs.declared.runs.Action.{Action}
 use Rattle.assembling.specs.declared.runs.Action.TheVariants.{Idle, Inserting, Deleting, Retaining}
 use Rattle.assembling.specs.declared.marks.Pending.TheVariants.{Stays}
-use Rattle.assembling.specs.Steps.{counted, insertedBy, pendingOf}
+use Rattle.assembling.specs.Steps.{counted, inserted_by, pending_of}
 
-pub kept-has : (a : Attrs) (k o c v : ℕ) → not (isAbsent (says a k)) ≡ true
-    → pendingOf (change true true 0 0 (is (envOf a k)) v) ≡ pendingOf (change true true o c (says a k) v)
-kept-has a k o c v e = ap (λ (x : ℕ). pendingOf (change true true 0 0 (is x) v)) (envOf-says a k) ∙ go (says a k) e
+pub kept-has : (a : Attrs) (k o c v : ℕ) → not (is_absent (says a k)) ≡ true
+    → pending_of (change true true 0 0 (is (env_of a k)) v) ≡ pending_of (change true true o c (says a k) v)
+kept-has a k o c v e = ap (λ (x : ℕ). pending_of (change true true 0 0 (is x) v)) (env_of-says a k) ∙ go (says a k) e
   where
-    go : (s : Slot) → not (isAbsent s) ≡ true → pendingOf (change true true 0 0 (is (lay s 0)) v) ≡ pendingOf (change true true o c s v)
+    go : (s : Slot) → not (is_absent s) ≡ true → pending_of (change true true 0 0 (is (lay s 0)) v) ≡ pending_of (change true true o c s v)
     go absent e = cc
     go (is w) e = refl
 
-pub kept-lacks : (a : Attrs) (k o c v : ℕ) → not (isAbsent (says a k)) ≡ false → Stays ≡ pendingOf (change true true o c (says a k) v)
-kept-lacks a k o c v e = go (says a k) e
+pub kept_lacks : (a : Attrs) (k o c v : ℕ) → not (is_absent (says a k)) ≡ false → Stays ≡ pending_of (change true true o c (says a k) v)
+kept_lacks a k o c v e = go (says a k) e
   where
-    go : (s : Slot) → not (isAbsent s) ≡ false → Stays ≡ pendingOf (change true true o c s v)
+    go : (s : Slot) → not (is_absent s) ≡ false → Stays ≡ pending_of (change true true o c s v)
     go absent e = refl
     go (is w) e = cc
 
-pub inserted-le : (r : Action) → insertedBy r ≤ counted r
+pub inserted-le : (r : Action) → inserted_by r ≤ counted r
 inserted-le Idle = omega arith
 inserted-le (Inserting n) = omega arith
 inserted-le (Deleting n) = omega arith

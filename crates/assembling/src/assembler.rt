@@ -1,9 +1,9 @@
 // `get_delta`'s assembler, by value. An item gives at most two operations and the next assembler.
 ghost use Rattle.std.specs.Prelude.{◌≡◌, ◌+◌, ◌<◌};
 ghost use Rattle.rules.specs.Sheet.{width};
-ghost use Rattle.layout.specs.Word.{whatOf};
-ghost use Rattle.encoding.specs.Words.{noneFound};
-ghost use Rattle.assembling.specs.Steps.{load, actionOp, turnedBy, textBy, embedBy, markBy, passBy, freshAsm};
+ghost use Rattle.layout.specs.Word.{what_of};
+ghost use Rattle.encoding.specs.Words.{none_found};
+ghost use Rattle.assembling.specs.Steps.{load, action_op, turned_by, text_by, embed_by, mark_by, pass_by, fresh_asm};
 
 use crate::marks::{changed, mark_turn, past, pending_of};
 use crate::runs::{Action, Sight, Turn, grow, inserted, starts};
@@ -30,7 +30,7 @@ pub struct Passed {
 }
 
 fn none() -> MaybeOp
-    ensures { result ≡ noneFound }
+    ensures { result ≡ none_found }
 {
     MaybeOp {
         op: Found::Nothing,
@@ -40,7 +40,7 @@ fn none() -> MaybeOp
 
 // The operation of the run, if there is one.
 pub fn add_op(a: Assembler) -> MaybeOp
-    ensures { result ≡ actionOp a.action a }
+    ensures { result ≡ action_op a.action a }
 {
     let action = a.action;
     let current = a.current;
@@ -78,7 +78,7 @@ pub fn add_op(a: Assembler) -> MaybeOp
 // The assembler with its next run; the run that ends is told.
 fn turned_by(a: Assembler, t: Turn) -> Passed
     requires { load a < 4294967296 }
-    ensures { result ≡ turnedBy a t }
+    ensures { result ≡ turned_by a t }
 {
     let action = t.action;
     let attrs = a.attrs;
@@ -113,7 +113,7 @@ fn turned_by(a: Assembler, t: Turn) -> Passed
 
 fn pass_text(a: Assembler, s: Sight, width: u32) -> Passed
     requires { load a + width < 4294967296 }
-    ensures { result ≡ textBy s.was s.is width a }
+    ensures { result ≡ text_by s.was s.is width a }
 {
     let action = a.action;
     turned_by(a, grow(s, width, action))
@@ -122,7 +122,7 @@ fn pass_text(a: Assembler, s: Sight, width: u32) -> Passed
 // A new embed is told at once; any other is one unit like a text's.
 fn pass_embed(a: Assembler, s: Sight, number: u32) -> Passed
     requires { load a + 1 < 4294967296 }
-    ensures { result ≡ embedBy s.was s.is number a }
+    ensures { result ≡ embed_by s.was s.is number a }
 {
     if s.was {
         return pass_text(a, s, 1);
@@ -145,7 +145,7 @@ fn pass_embed(a: Assembler, s: Sight, number: u32) -> Passed
 
 fn pass_mark(a: Assembler, s: Sight, key: u32, value: u32) -> Passed
     requires { load a < 4294967296 }
-    ensures { result ≡ markBy s.was s.is key value a }
+    ensures { result ≡ mark_by s.was s.is key value a }
 {
     let action = a.action;
     let attrs = a.attrs;
@@ -171,8 +171,8 @@ fn pass_mark(a: Assembler, s: Sight, key: u32, value: u32) -> Passed
 }
 
 pub fn pass(a: Assembler, s: Sight, content: Content) -> Passed
-    requires { load a + width (whatOf content) < 4294967296 }
-    ensures { result ≡ passBy s.was s.is (whatOf content) a }
+    requires { load a + width (what_of content) < 4294967296 }
+    ensures { result ≡ pass_by s.was s.is (what_of content) a }
 {
     match content {
         Content::Text { start: _, len } => pass_text(a, s, len),
@@ -184,7 +184,7 @@ pub fn pass(a: Assembler, s: Sight, content: Content) -> Passed
 impl Assembler {
     // Nothing gathered, nothing pending, nothing in force.
     pub fn fresh() -> Assembler
-        ensures { result ≡ freshAsm }
+        ensures { result ≡ fresh_asm }
     {
         Assembler {
             action: Action::Idle,

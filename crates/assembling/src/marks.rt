@@ -1,9 +1,9 @@
 // What a mark does: to the pending attributes, to those in force, and to the run.
 ghost use Rattle.std.specs.Prelude.{◌≡◌, true, false};
 ghost use Rattle.sets.specs.Sets.{absent, is};
-ghost use Rattle.attrs.specs.Packed.{says, envOf};
+ghost use Rattle.attrs.specs.Packed.{says, env_of};
 ghost use Rattle.rules.specs.Event.{change};
-ghost use Rattle.assembling.specs.Steps.{pendingOf, addedBy, breaksBy, changedBy, pastBy, markTurn};
+ghost use Rattle.assembling.specs.Steps.{pending_of, added_by, breaks_by, changed_by, past_by, mark_turn};
 
 use crate::assembler::Assembler;
 use crate::runs::{Action, Sight, Turn, goes, starts};
@@ -19,7 +19,7 @@ pub enum Pending {
 
 // The pending attribute of an added mark: none where the old value comes back.
 fn added(old: u32, value: u32) -> Pending
-    ensures { result ≡ addedBy old value }
+    ensures { result ≡ added_by old value }
 {
     if old == value {
         return Pending::Drops;
@@ -28,7 +28,7 @@ fn added(old: u32, value: u32) -> Pending
 }
 
 fn pending_added(old: u32, current: u32, value: u32) -> Pending
-    ensures { result ≡ pendingOf (change false true old current absent value) }
+    ensures { result ≡ pending_of (change false true old current absent value) }
 {
     if current == value {
         if value != 0 {
@@ -41,7 +41,7 @@ fn pending_added(old: u32, current: u32, value: u32) -> Pending
 
 // A mark that stays, under a pending attribute: null is no value.
 fn pending_kept(held: u32, value: u32) -> Pending
-    ensures { result ≡ pendingOf (change true true 0 0 (is held) value) }
+    ensures { result ≡ pending_of (change true true 0 0 (is held) value) }
 {
     if held == value {
         return Pending::Stays;
@@ -53,7 +53,7 @@ fn pending_kept(held: u32, value: u32) -> Pending
 }
 
 pub(crate) fn pending_of(a: Assembler, s: Sight, key: u32, value: u32) -> Pending
-    ensures { result ≡ pendingOf (change s.was s.is (envOf a.old key) (envOf a.current key) (says a.attrs key) value) }
+    ensures { result ≡ pending_of (change s.was s.is (env_of a.old key) (env_of a.current key) (says a.attrs key) value) }
 {
     let old = a.old;
     let current = a.current;
@@ -79,7 +79,7 @@ pub(crate) fn pending_of(a: Assembler, s: Sight, key: u32, value: u32) -> Pendin
 
 // A changed attribute ends a Retain, any mark that stands now an Insert.
 fn breaks(p: Pending, is: bool, action: Action) -> bool
-    ensures { result ≡ breaksBy p is action }
+    ensures { result ≡ breaks_by p is action }
 {
     match action {
         Action::Idle => false,
@@ -94,7 +94,7 @@ fn breaks(p: Pending, is: bool, action: Action) -> bool
 }
 
 pub(crate) fn changed(attrs: Attrs, p: Pending, key: u32) -> Attrs
-    ensures { result ≡ changedBy attrs p key }
+    ensures { result ≡ changed_by attrs p key }
 {
     match p {
         Pending::Stays => attrs,
@@ -108,7 +108,7 @@ pub(crate) fn changed(attrs: Attrs, p: Pending, key: u32) -> Attrs
 
 // What is in force past a mark that is seen, or not.
 pub(crate) fn past(force: Attrs, seen: bool, key: u32, value: u32) -> Attrs
-    ensures { result ≡ pastBy force seen key value }
+    ensures { result ≡ past_by force seen key value }
 {
     if seen {
         let took = force.update_current_attributes(key, value);
@@ -118,7 +118,7 @@ pub(crate) fn past(force: Attrs, seen: bool, key: u32, value: u32) -> Attrs
 }
 
 pub(crate) fn mark_turn(p: Pending, is: bool, action: Action) -> Turn
-    ensures { result ≡ markTurn p is action }
+    ensures { result ≡ mark_turn p is action }
 {
     if breaks(p, is, action) {
         return starts(Action::Idle);

@@ -1,7 +1,7 @@
 // The run that grows, and what an item that is seen, before or now, does to it.
 ghost use Rattle.std.specs.Prelude.{◌≡◌, ◌+◌, ◌<◌};
 ghost use Rattle.rules.specs.Reading.{before};
-ghost use Rattle.assembling.specs.Steps.{flags_of, sight_of, counted, insertedBy, goesOn, begins, growInsertBy, growDeleteBy, growRetainBy, grownBy};
+ghost use Rattle.assembling.specs.Steps.{flags_of, sight_of, counted, inserted_by, goes_on, begins, grow_insert_by, grow_delete_by, grow_retain_by, grown_by};
 
 use layout::word::Item;
 
@@ -59,7 +59,7 @@ pub fn seen_by(it: Item, back: bool) -> Sight
 
 // How much text the run inserts.
 pub fn inserted(action: Action) -> u32
-    ensures { result ≡ insertedBy action }
+    ensures { result ≡ inserted_by action }
 {
     match action {
         Action::Idle => 0,
@@ -70,7 +70,7 @@ pub fn inserted(action: Action) -> u32
 }
 
 pub(crate) fn goes(action: Action) -> Turn
-    ensures { result ≡ goesOn action }
+    ensures { result ≡ goes_on action }
 {
     Turn {
         ends: false,
@@ -87,7 +87,7 @@ pub(crate) fn starts(action: Action) -> Turn
 // A run of the item's own kind grows; any other ends.
 fn grow_insert(width: u32, action: Action) -> Turn
     requires { counted action + width < 4294967296 }
-    ensures { result ≡ growInsertBy width action }
+    ensures { result ≡ grow_insert_by width action }
 {
     match action {
         Action::Idle => starts(Action::Inserting(width)),
@@ -99,7 +99,7 @@ fn grow_insert(width: u32, action: Action) -> Turn
 
 fn grow_delete(width: u32, action: Action) -> Turn
     requires { counted action + width < 4294967296 }
-    ensures { result ≡ growDeleteBy width action }
+    ensures { result ≡ grow_delete_by width action }
 {
     match action {
         Action::Idle => starts(Action::Deleting(width)),
@@ -111,7 +111,7 @@ fn grow_delete(width: u32, action: Action) -> Turn
 
 fn grow_retain(width: u32, action: Action) -> Turn
     requires { counted action + width < 4294967296 }
-    ensures { result ≡ growRetainBy width action }
+    ensures { result ≡ grow_retain_by width action }
 {
     match action {
         Action::Idle => starts(Action::Retaining(width)),
@@ -123,7 +123,7 @@ fn grow_retain(width: u32, action: Action) -> Turn
 
 pub(crate) fn grow(s: Sight, width: u32, action: Action) -> Turn
     requires { counted action + width < 4294967296 }
-    ensures { result ≡ grownBy s.was s.is width action }
+    ensures { result ≡ grown_by s.was s.is width action }
 {
     if s.was {
         if s.is {

@@ -5,10 +5,10 @@ use Prim.Native.Nat.{ℕ, ◌<◌}
 use lib.Dec.{ltb}
 use borrow.Author.Tests.{eq-eqb, ne_eqb}
 use Rattle.attrs.specs.declared.Attrs.{Attrs}
-use Rattle.sets.specs.Sets.{Slot, absent, is, Set, Env, empty, lay, differs, opened, nullFor, completed}
+use Rattle.sets.specs.Sets.{Slot, absent, is, Set, Env, empty, lay, differs, opened, null_for, completed}
 use Rattle.sets.specs.Bits.{bit}
-use Rattle.attrs.specs.Packed.{says, envOf, packed, changed}
-use Rattle.attrs.proofs.Says.{says-packed, envOf-says}
+use Rattle.attrs.specs.Packed.{says, env_of, packed, changed}
+use Rattle.attrs.proofs.Says.{says-packed, env_of-says}
 use Rattle.attrs.proofs.Slots.{says-clear, key-says}
 
 pub says-empty : (k : ℕ) → says (packed empty) k ≡ absent
@@ -26,15 +26,15 @@ module _ (a : Attrs) (e f : Env) (k : ℕ) where
   pub changed-lacks : bit a.mask k ≡ 0 → changed (says a) e f k ≡ says (packed empty) k
   changed-lacks q = rw (says-clear a k q) (sym (says-empty k))
 
-  pub changed-keeps : envOf a k ≡ e k → changed (says a) e f k ≡ says (packed empty) k
-  changed-keeps q = changed-not (says a k) (sym (envOf-says a k) ∙ q) ∙ sym (says-empty k)
+  pub changed-keeps : env_of a k ≡ e k → changed (says a) e f k ≡ says (packed empty) k
+  changed-keeps q = changed-not (says a k) (sym (env_of-says a k) ∙ q) ∙ sym (says-empty k)
 
-  pub changed-puts : k < 16 → bit a.mask k ≡ 1 → (envOf a k ≡ e k → ⊥) → changed (says a) e f k ≡ is (f k)
-  changed-puts l b n = rw (key-says a k l b, ne_eqb (envOf a k) (e k) n)
+  pub changed-puts : k < 16 → bit a.mask k ≡ 1 → (env_of a k ≡ e k → ⊥) → changed (says a) e f k ≡ is (f k)
+  changed-puts l b n = rw (key-says a k l b, ne_eqb (env_of a k) (e k) n)
 
 -- with the set's own values, it is what Open puts
-pub changed-opened : (a : Attrs) (e : Env) → changed (says a) e (envOf a) ≡ opened (says a) e
-unfolding envOf
+pub changed-opened : (a : Attrs) (e : Env) → changed (says a) e (env_of a) ≡ opened (says a) e
+unfolding env_of
 changed-opened a e = fun_ext (λ k. go (says a k) (e k))
   where
     go : (s : Slot) (v : ℕ) → cond (differs s v) (is (lay s 0)) absent ≡ cond (differs s v) s absent
@@ -45,7 +45,7 @@ module _ (a : Attrs) (e : Env) (k : ℕ) where
   pub completed-none : e k ≡ 0 → completed (says a) e k ≡ says a k
   completed-none q = rw q (go (says a k))
     where
-      go : (s : Slot) → nullFor s 0 ≡ s
+      go : (s : Slot) → null_for s 0 ≡ s
       go absent = refl
       go (is w) = refl
 

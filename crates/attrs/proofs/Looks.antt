@@ -28,9 +28,9 @@ byte-look a k = byte-held (bit a.mask k) (get_or a.values k 0)
 
 -- ---- `make f` has f k at each key
 
-held-again : (h : Held) → held (flag h) (byte h) ≡ h
-held-again (hidden v) = refl
-held-again (holds v) = refl
+held_again : (h : Held) → held (flag h) (byte h) ≡ h
+held_again (hidden v) = refl
+held_again (holds v) = refl
 
 flag-lt : (h : Held) → flag h < 2
 flag-lt (hidden v) = omega arith
@@ -44,18 +44,18 @@ bit_mask (suc n) f (suc k) l =
     let e : (flag (f 0) + 2 * mask_of n (λ k. f (suc k))) / 2 ≡ mask_of n (λ k. f (suc k)) = omega (arith, flag-lt (f 0)) in
     ap (λ (x : ℕ). bit x k) e ∙ bit_mask n (λ k. f (suc k)) k (le_of_suc-le-suc l)
 
-getD-values : (n : ℕ) (f : ℕ → Held) (k : ℕ) → k < n → get_or (values_of n f) k 0 ≡ byte (f k)
+get_or_values : (n : ℕ) (f : ℕ → Held) (k : ℕ) → k < n → get_or (values_of n f) k 0 ≡ byte (f k)
 unfolding values_of
-getD-values zero f k l = absurd (not-suc-le-zero l)
-getD-values (suc n) f zero l = refl
-getD-values (suc n) f (suc k) l = getD-values n (λ k. f (suc k)) k (le_of_suc-le-suc l)
+get_or_values zero f k l = absurd (not-suc-le-zero l)
+get_or_values (suc n) f zero l = refl
+get_or_values (suc n) f (suc k) l = get_or_values n (λ k. f (suc k)) k (le_of_suc-le-suc l)
 
 pub look-make : (f : ℕ → Held) (k : ℕ) → k < 16 → look (make f) k ≡ f k
 unfolding look make
 look-make f k l =
     let b : bit (mask_of 16 f) k ≡ flag (f k) = bit_mask 16 f k l in
-    let v : get_or (values_of 16 f) k 0 ≡ byte (f k) = getD-values 16 f k l in
-    rw (b, v) (held-again (f k))
+    let v : get_or (values_of 16 f) k 0 ≡ byte (f k) = get_or_values 16 f k l in
+    rw (b, v) (held_again (f k))
 
 mask_lt : (n : ℕ) (f : ℕ → Held) → mask_of n f < 2 ^ n
 unfolding mask_of
@@ -73,22 +73,22 @@ whole-make f = record { fits = mask_lt 16 f; long = values-long 16 f }
 
 -- ---- and no other set has
 
-values-are : (n : ℕ) (xs : List ℕ) (f : ℕ → Held) → length xs ≡ n → ((k : ℕ) → k < n → get_or xs k 0 ≡ byte (f k)) → xs ≡ values_of n f
+values_are : (n : ℕ) (xs : List ℕ) (f : ℕ → Held) → length xs ≡ n → ((k : ℕ) → k < n → get_or xs k 0 ≡ byte (f k)) → xs ≡ values_of n f
 unfolding values_of
-values-are zero [] f l h = refl
-values-are zero (x ∷ xs) f l h = absurd (omega arith)
-values-are (suc n) [] f l h = absurd (omega arith)
-values-are (suc n) (x ∷ xs) f l h =
+values_are zero [] f l h = refl
+values_are zero (x ∷ xs) f l h = absurd (omega arith)
+values_are (suc n) [] f l h = absurd (omega arith)
+values_are (suc n) (x ∷ xs) f l h =
     let e : x ≡ byte (f 0) = h 0 (zero-lt-suc n) in
-    let t : xs ≡ values_of n (λ k. f (suc k)) = values-are n xs (λ k. f (suc k)) (omega arith) (λ k g. h (suc k) (omega arith)) in
+    let t : xs ≡ values_of n (λ k. f (suc k)) = values_are n xs (λ k. f (suc k)) (omega arith) (λ k g. h (suc k) (omega arith)) in
     cc
 
 pub made : (a : Attrs) (f : ℕ → Held) → Whole a → ((k : ℕ) → k < 16 → look a k ≡ f k) → a ≡ make f
 unfolding make
 made a f w h =
     let m : a.mask ≡ mask_of 16 f = bits-settle 16 a.mask (mask_of 16 f) w.fits (mask_lt 16 f) (λ k g. sym (flag-look a k) ∙ ap flag (h k g) ∙ sym (bit_mask 16 f k g)) in
-    let v : a.values ≡ values_of 16 f = values-are 16 a.values f w.long (λ k g. sym (byte-look a k) ∙ ap byte (h k g)) in
+    let v : a.values ≡ values_of 16 f = values_are 16 a.values f w.long (λ k g. sym (byte-look a k) ∙ ap byte (h k g)) in
     λ i. record { mask = m i; values = v i }
 
-pub make-ext : (f g : ℕ → Held) → ((k : ℕ) → k < 16 → f k ≡ g k) → make f ≡ make g
-make-ext f g h = made (make f) g (whole-make f) (λ k l. look-make f k l ∙ h k l)
+pub make_ext : (f g : ℕ → Held) → ((k : ℕ) → k < 16 → f k ≡ g k) → make f ≡ make g
+make_ext f g h = made (make f) g (whole-make f) (λ k l. look-make f k l ∙ h k l)

@@ -6,8 +6,8 @@ use lib.Dec.{ltb}
 use borrow.Author.Tests.{lt-ltb, le-ltb, ltb-true}
 use Rattle.attrs.specs.declared.Attrs.{Attrs}
 use Rattle.sets.specs.Sets.{Slot, absent, is, Set, lay, within}
-use Rattle.attrs.specs.Packed.{Held, hidden, holds, look, seen, says, envOf, store, packed, onto, Whole}
-use Rattle.attrs.proofs.Looks.{made, look-make, whole-make, make-ext}
+use Rattle.attrs.specs.Packed.{Held, hidden, holds, look, seen, says, env_of, store, packed, onto, Whole}
+use Rattle.attrs.proofs.Looks.{made, look-make, whole-make, make_ext}
 
 -- ---- at one key
 
@@ -18,8 +18,8 @@ pub within-past : (s : Set) (k : ℕ) → 16 ≤ k → within s k ≡ absent
 within-past s k l = rw (le-ltb k 16 l)
 
 -- two sets that agree at each key agree
-pub within-ext : (s t : Set) → ((k : ℕ) → k < 16 → s k ≡ t k) → within s ≡ within t
-within-ext s t h = fun_ext (λ k. go k (ltb k 16) refl)
+pub within_ext : (s t : Set) → ((k : ℕ) → k < 16 → s k ≡ t k) → within s ≡ within t
+within_ext s t h = fun_ext (λ k. go k (ltb k 16) refl)
   where
     go : (k : ℕ) (b : Bool) → ltb k 16 ≡ b → cond b (s k) absent ≡ cond b (t k) absent
     go k true e = h k (ltb-true k 16 e)
@@ -41,9 +41,9 @@ says-within a = fun_ext (λ k. go (ltb k 16) (seen (look a k)))
     go true s = refl
     go false s = refl
 
-pub envOf-says : (a : Attrs) (k : ℕ) → envOf a k ≡ lay (says a k) 0
-unfolding envOf
-envOf-says a k = refl
+pub env_of-says : (a : Attrs) (k : ℕ) → env_of a k ≡ lay (says a k) 0
+unfolding env_of
+env_of-says a k = refl
 
 -- ---- what is stored is said
 
@@ -71,7 +71,7 @@ look-onto a s k l = look-make (λ k. store (s k) (look a k)) k l
 
 says_if : (a : Attrs) (s : Set) → ((k : ℕ) → k < 16 → seen (look a k) ≡ s k) → says a ≡ within s
 unfolding says
-says_if a s h = within-ext (λ k. seen (look a k)) s h
+says_if a s h = within_ext (λ k. seen (look a k)) s h
 
 pub says-packed : (s : Set) → says (packed s) ≡ within s
 says-packed s = says_if (packed s) s (λ k l. ap seen (look-packed s k l) ∙ seen-store (s k) (hidden 0))
@@ -81,18 +81,18 @@ says-onto a s = says_if (onto a s) s (λ k l. ap seen (look-onto a s k l) ∙ se
 
 -- ---- packed sets: the ones without hidden bytes
 
-pub packed-ext : (s t : Set) → ((k : ℕ) → k < 16 → s k ≡ t k) → packed s ≡ packed t
+pub packed_ext : (s t : Set) → ((k : ℕ) → k < 16 → s k ≡ t k) → packed s ≡ packed t
 unfolding packed
-packed-ext s t h =
-    make-ext (λ k. store (s k) (hidden 0)) (λ k. store (t k) (hidden 0)) (λ k l. ap (λ (x : Slot). store x (hidden 0)) (h k l))
+packed_ext s t h =
+    make_ext (λ k. store (s k) (hidden 0)) (λ k. store (t k) (hidden 0)) (λ k l. ap (λ (x : Slot). store x (hidden 0)) (h k l))
 
 pub packed-within : (s : Set) → packed (within s) ≡ packed s
-packed-within s = packed-ext (within s) s (within-at s)
+packed-within s = packed_ext (within s) s (within-at s)
 
 pub onto-packed : (s t : Set) → onto (packed t) s ≡ packed s
 unfolding onto packed
 onto-packed s t =
-    make-ext (λ k. store (s k) (look (packed t) k)) (λ k. store (s k) (hidden 0))
+    make_ext (λ k. store (s k) (look (packed t) k)) (λ k. store (s k) (hidden 0))
     (λ k l. ap (store (s k)) (look-packed t k l) ∙ store-over (s k) (t k))
 
 pub whole-packed : (s : Set) → Whole (packed s)

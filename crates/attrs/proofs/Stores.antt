@@ -8,10 +8,10 @@ use lib.ListN.{set, length-set}
 use lib.Seq.{get_or-set_same, get_or-set_other}
 use borrow.Author.Tests.{ltb-true, ltb-false, eqb-true, eqb-false}
 use Rattle.attrs.specs.declared.Attrs.{Attrs}
-use Rattle.sets.specs.Sets.{Slot, absent, is, at, isAbsent}
+use Rattle.sets.specs.Sets.{Slot, absent, is, at, is_absent}
 use Rattle.sets.specs.Bits.{bit, BitSet}
 use Rattle.attrs.specs.Packed.{Held, hidden, holds, held, look, flag, store, says, onto, Whole}
-use Rattle.sets.proofs.Bits.{bit-clear-same, bit-clear-other, at_key, at_same, at_other}
+use Rattle.sets.proofs.Bits.{bit_clear-same, bit_clear-other, at_key, at_same, at_other}
 use Rattle.attrs.proofs.Looks.{flag-look}
 use Rattle.attrs.proofs.Says.{says_at, says_past, store-seen, is-onto, onto_same}
 use Rattle.attrs.proofs.Slots.{has-bit}
@@ -43,25 +43,25 @@ module _ (a : Attrs) (m k v : ℕ) (w : Whole a) (l : k < 16) (f : m < 2 ^ 16) w
 pub put-gone : (a : Attrs) (k : ℕ) → Whole a → k < 16 → bit a.mask k ≡ 1
     → record { mask = a.mask - 2 ^ k; values = set a.values k 0 } ≡ onto a (at k absent (says a))
 put-gone a k w l e =
-    written a (a.mask - 2 ^ k) k 0 w l (omega (arith, w.fits)) 0 absent (bit-clear-same a.mask k e)
-    (λ j n. bit-clear-other a.mask k j e n) (go (look a k) (flag-look a k ∙ e))
+    written a (a.mask - 2 ^ k) k 0 w l (omega (arith, w.fits)) 0 absent (bit_clear-same a.mask k e)
+    (λ j n. bit_clear-other a.mask k j e n) (go (look a k) (flag-look a k ∙ e))
   where
     go : (h : Held) → flag h ≡ 1 → hidden 0 ≡ store absent h
     go (hidden v) q = absurd (omega arith)
     go (holds v) q = refl
 
 -- a key that is not there cannot go
-pub none-gone : (a : Attrs) (k : ℕ) → Whole a → not (isAbsent (says a k)) ≡ false → a ≡ onto a (at k absent (says a))
+pub none-gone : (a : Attrs) (k : ℕ) → Whole a → not (is_absent (says a k)) ≡ false → a ≡ onto a (at k absent (says a))
 none-gone a k w e = onto_same a (at k absent (says a)) w (λ j l. sym (at_key k absent (says a) (says a) (gone (says a k) e) (λ i n. refl) j))
   where
-    gone : (s : Slot) → not (isAbsent s) ≡ false → s ≡ absent
+    gone : (s : Slot) → not (is_absent s) ≡ false → s ≡ absent
     gone absent q = refl
     gone (is v) q = absurd (true≢false q)
 
 -- a key that is there is below 16, and its bit is set
-pub there : (a : Attrs) (k : ℕ) → not (isAbsent (says a k)) ≡ true → (k < 16) × (bit a.mask k ≡ 1)
+pub there : (a : Attrs) (k : ℕ) → not (is_absent (says a k)) ≡ true → (k < 16) × (bit a.mask k ≡ 1)
 there a k e = go (ltb k 16) refl
   where
     go : (b : Bool) → ltb k 16 ≡ b → (k < 16) × (bit a.mask k ≡ 1)
     go true q = let l = ltb-true k 16 q in (l, eqb-true (bit a.mask k) 1 (sym (has-bit a k l) ∙ e))
-    go false q = absurd (true≢false (sym e ∙ ap (λ (s : Slot). not (isAbsent s)) (says_past a k (ltb-false k 16 q))))
+    go false q = absurd (true≢false (sym e ∙ ap (λ (s : Slot). not (is_absent s)) (says_past a k (ltb-false k 16 q))))

@@ -9,9 +9,9 @@ use Rattle.attrs.specs.declared.Attrs.{Attrs}
 use Rattle.sets.specs.Sets.{Slot, is, Set, at}
 use Rattle.sets.specs.Bits.{bit}
 use Rattle.attrs.specs.Packed.{look, says, store, onto, Whole}
-use Rattle.sets.proofs.Bits.{bit-lt, bit-zero, bit-clear-same, bit-clear-other, at_same, at_other}
+use Rattle.sets.proofs.Bits.{bit-lt, bit-zero, bit_clear-same, bit_clear-other, at_same, at_other}
 use Rattle.attrs.proofs.Says.{says_at, store-seen, look-onto, whole-onto, is-onto}
-use Rattle.attrs.proofs.Slots.{Part, part-all, Turn}
+use Rattle.attrs.proofs.Slots.{Part, part_all, Turn}
 
 -- The slots of s are stored over a. A key that is left has what it had, any other what it is to have.
 pub record Walk (m left : ℕ) (a : Attrs) (s : Set) (now : Attrs) : Type 0 where
@@ -23,7 +23,7 @@ store_same : (a : Attrs) (x : Slot) (k : ℕ) → k < 16 → x ≡ says a k → 
 store_same a x k l e = sym (ap (λ (y : Slot). store y (look a k)) (e ∙ says_at a k l) ∙ store-seen (look a k))
 
 pub begins : (m : ℕ) (a : Attrs) (s : Set) → Whole a → m < 2 ^ 16 → ((j : ℕ) → bit m j ≡ 0 → s j ≡ says a j) → Walk m m a s a
-begins m a s w l h = record { part = part-all m l; whole = w; lies = λ j g. go j g (eqb (bit m j) 1) refl }
+begins m a s w l h = record { part = part_all m l; whole = w; lies = λ j g. go j g (eqb (bit m j) 1) refl }
   where
     go : (j : ℕ) → j < 16 → (t : Bool) → eqb (bit m j) 1 ≡ t → look a j ≡ cond t (look a j) (store (s j) (look a j))
     go j g true q = refl
@@ -43,8 +43,8 @@ module _ {m left k r : ℕ} {a : Attrs} {s : Set} {now : Attrs} (w : Walk m left
     where
       go : (j : ℕ) → j < 16 → (t : Bool) → eqb j k ≡ t
           → look now' j ≡ cond (eqb (bit (left - 2 ^ k) j) 1) (look a j) (store (s j) (look a j))
-      go j g true q = rw (eqb-true j k q, bit-clear-same left k x.here) e
-      go j g false q = rw (bit-clear-other left k j x.here (eqb-false j k q)) (o j g (eqb-false j k q) ∙ w.lies j g)
+      go j g true q = rw (eqb-true j k q, bit_clear-same left k x.here) e
+      go j g false q = rw (bit_clear-other left k j x.here (eqb-false j k q)) (o j g (eqb-false j k q) ∙ w.lies j g)
 
   pub visit-put : {now' : Attrs} {v : ℕ} → now' ≡ onto now (at k (is v) (says now)) → s k ≡ is v → Walk m r a s now'
   visit-put {v = v} e q =

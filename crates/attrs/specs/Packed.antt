@@ -2,7 +2,7 @@
 use Rattle.std.specs.Prelude.{◌≡◌, Bool, cond, ◌&&◌, List, [], ◌∷◌, ℕ, zero, suc, ◌+◌, ◌*◌, ◌^◌, ◌<◌, ltb, length, get_or}
 use Rattle.attrs.specs.declared.Attrs.{Attrs}
 use Rattle.attrs.specs.declared.Took.{Took}
-use Rattle.sets.specs.Sets.{Slot, absent, is, Set, Env, at, lay, nonNull, differs, within}
+use Rattle.sets.specs.Sets.{Slot, absent, is, Set, Env, at, lay, non_null, differs, within}
 use Rattle.sets.specs.Bits.{bit}
 
 -- What lies in memory for a key: a byte that no reader sees, since the key is absent, or a value that is held.
@@ -27,8 +27,8 @@ unfoldable pub says : Attrs → Set
 says a = within (λ k. seen (look a k))
 
 -- .. and what it puts in force, where nothing else is.
-unfoldable pub envOf : Attrs → Env
-envOf a k = lay (says a k) 0
+unfoldable pub env_of : Attrs → Env
+env_of a k = lay (says a k) 0
 
 -- ---- a set from what lies at each key
 
@@ -77,12 +77,12 @@ refused a = record { refusal = 16; attrs = a }
 abbrev pub taken : Attrs → Took
 taken a = record { refusal = 0; attrs = a }
 
-abbrev pub withAt : Attrs → ℕ → ℕ → Took
-withAt a k v = cond (takes k v) (taken (onto a (at k (is v) (says a)))) (refused a)
+abbrev pub with_at : Attrs → ℕ → ℕ → Took
+with_at a k v = cond (takes k v) (taken (onto a (at k (is v) (says a)))) (refused a)
 
 -- A value is set, null removes.
-abbrev pub updateAt : Attrs → ℕ → ℕ → Took
-updateAt a k v = cond (takes k v) (taken (onto a (at k (nonNull v) (says a)))) (refused a)
+abbrev pub update_at : Attrs → ℕ → ℕ → Took
+update_at a k v = cond (takes k v) (taken (onto a (at k (non_null v) (says a)))) (refused a)
 
 -- The keys of a set whose value is not the one in force, with other values.
 abbrev pub changed : Set → Env → Env → Set
@@ -90,7 +90,7 @@ changed a e f k = cond (differs (a k) (e k)) (is (f k)) absent
 
 -- What `get` answers; a value is a byte.
 pub record Got (a : Attrs) (k r : ℕ) : Type 0 where
-  pub is : r ≡ envOf a k
+  pub is : r ≡ env_of a k
   pub small : r < 256
 
 -- What every value of the type is.

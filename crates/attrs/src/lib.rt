@@ -1,7 +1,7 @@
 // Attribute sets: for each key 0 to 15 absent, null (0) or a value 1 to 255. A set goes by value.
 ghost use Rattle.std.specs.Prelude.{◌≡◌, not, ◌<◌, length};
-ghost use Rattle.sets.specs.Sets.{absent, is, empty, keys, at, isAbsent, bare, slotIs, opened, former, completed, sameSets, present};
-ghost use Rattle.attrs.specs.Packed.{says, envOf, packed, onto, withAt, updateAt, changed, Got};
+ghost use Rattle.sets.specs.Sets.{absent, is, empty, keys, at, is_absent, bare, slot_is, opened, former, completed, same_sets, present};
+ghost use Rattle.attrs.specs.Packed.{says, env_of, packed, onto, with_at, update_at, changed, Got};
 
 use sets::{bit_at, bit_of, rest, set_bit};
 
@@ -38,7 +38,7 @@ impl Attrs {
     }
 
     pub fn has(self, key: u32) -> bool
-        ensures { result ≡ not (isAbsent (says self key)) }
+        ensures { result ≡ not (is_absent (says self key)) }
     {
         if key >= Attrs::KEYS {
             return false;
@@ -62,7 +62,7 @@ impl Attrs {
 
     // Does the set hold just this value, null counted as one?
     pub fn agrees(self, key: u32, value: u32) -> bool
-        ensures { result ≡ slotIs (says self key) value }
+        ensures { result ≡ slot_is (says self key) value }
     {
         if self.has(key) {
             return self.get(key) == value;
@@ -83,7 +83,7 @@ impl Attrs {
     }
 
     pub fn with(self, key: u32, value: u32) -> Took
-        ensures { result ≡ withAt self key value }
+        ensures { result ≡ with_at self key value }
     {
         if key >= Attrs::KEYS {
             return Took {
@@ -118,7 +118,7 @@ impl Attrs {
 
     // What passing a mark makes of the attributes in force: null removes the key.
     pub fn update_current_attributes(self, key: u32, value: u32) -> Took
-        ensures { result ≡ updateAt self key value }
+        ensures { result ≡ update_at self key value }
     {
         if value != 0 {
             return self.with(key, value);
@@ -149,7 +149,7 @@ impl Attrs {
 
     // A null for each key in force that the set lacks.
     pub fn unset_missing(self, force: Attrs) -> Attrs
-        ensures { result ≡ onto self (completed (says self) (envOf force)) }
+        ensures { result ≡ onto self (completed (says self) (env_of force)) }
     {
         let mut out = self;
         let mut left = force.mask;
@@ -167,7 +167,7 @@ impl Attrs {
 
     // The keys whose value is not the one in force, with the values of `from`.
     fn changed(self, force: Attrs, from: Attrs) -> Attrs
-        ensures { result ≡ packed (changed (says self) (envOf force) (envOf from)) }
+        ensures { result ≡ packed (changed (says self) (env_of force) (env_of from)) }
     {
         let mut out = Attrs::empty();
         let mut left = self.mask;
@@ -183,21 +183,21 @@ impl Attrs {
 
     // What Open puts.
     pub fn differing(self, force: Attrs) -> Attrs
-        ensures { result ≡ packed (opened (says self) (envOf force)) }
+        ensures { result ≡ packed (opened (says self) (env_of force)) }
     {
         self.changed(force, self)
     }
 
     // What Open remembers.
     pub fn remembered(self, force: Attrs) -> Attrs
-        ensures { result ≡ packed (former (says self) (envOf force)) }
+        ensures { result ≡ packed (former (says self) (env_of force)) }
     {
         self.changed(force, force)
     }
 
     // The same slot at each key: the same keys, and no value that differs.
     pub fn same(self, other: Attrs) -> bool
-        ensures { result ≡ sameSets keys (says self) (says other) }
+        ensures { result ≡ same_sets keys (says self) (says other) }
     {
         if self.mask != other.mask {
             return false;

@@ -1,7 +1,7 @@
 // The calls of `attrs` at their limits: each check is proved from the promises, and run.
 ghost use Rattle.std.specs.Prelude.{◌≡◌};
 ghost use Rattle.sets.specs.Sets.{keys, present};
-ghost use Rattle.attrs.specs.Packed.{says, envOf};
+ghost use Rattle.attrs.specs.Packed.{says, env_of};
 ghost use Rattle.attrs_main.specs.Sum.{sum_of};
 
 use attrs::Attrs;
@@ -9,7 +9,7 @@ use sets::Key;
 
 // A walk over the keys from outside, by `lowest` and `rest`.
 fn total(a: Attrs) -> u32
-    ensures { result ≡ sum_of (envOf a) (present keys (says a)) }
+    ensures { result ≡ sum_of (env_of a) (present keys (says a)) }
 {
     let mut left = a.mask;
     let mut sum: u32 = 0;

@@ -10,8 +10,8 @@ use Rattle.sets.specs.Sets.{Set}
 use Rattle.attrs.specs.Packed.{says}
 use Rattle.rules.specs.Sheet.{text, embed}
 use Rattle.rules.specs.Places.{At, whole}
-use Rattle.rules.specs.Edits.{insertWith}
-use Rattle.rules.specs.Delta.{newText, newEmbed, insertHere, carryOut}
+use Rattle.rules.specs.Edits.{insert_with}
+use Rattle.rules.specs.Delta.{new_text, new_embed, insert_here, carry_out}
 use Rattle.laws.proofs.Makes.{carry-longer}
 use Rattle.layout.specs.declared.head.Head.{Head}
 use Rattle.layout.proofs.Links.{length-chain}
@@ -25,31 +25,31 @@ use Rattle.ops.specs.declared.delta.Op.{Op}
 use Rattle.ops.specs.declared.delta.Op.TheVariants.{Insert}
 use Rattle.ops.specs.declared.delta.DeltaOp.{DeltaOp}
 use Rattle.ops.specs.declared.delta.Delta.{Delta}
-use Rattle.carrying.specs.Turns.{givenAt, heldBy, brings, ruleOf, laid, bringing, given, Tried}
+use Rattle.carrying.specs.Turns.{given_at, held_by, brings, rule_of, laid, bringing, given, Tried}
 
 -- ---- one operation
 module _ {h : Head} {m : List ℕ} {p : Place} where
-  pub text-none : Standing h m p → (s n : ℕ) (a : Set) → n ≡ 0 → Carried (insertHere (newText s n) a) h m p h m p
-  text-none st s zero a z = carried-as (insertHere (newText s zero) a) (carried-stay st) refl
+  pub text-none : Standing h m p → (s n : ℕ) (a : Set) → n ≡ 0 → Carried (insert_here (new_text s n) a) h m p h m p
+  text-none st s zero a z = carried-as (insert_here (new_text s zero) a) (carried-stay st) refl
   text-none st s (suc n) a z = absurd (omega arith)
 
   module _ {h₁ : Head} {m₁ : List ℕ} {p₁ : Place} where
-    pub text-some : (s n : ℕ) (a : Set) → (n ≡ 0 → ⊥) → Carried (insertWith (text s n) a) h m p h₁ m₁ p₁ → Carried (insertHere (newText s n) a) h m p h₁ m₁ p₁
+    pub text-some : (s n : ℕ) (a : Set) → (n ≡ 0 → ⊥) → Carried (insert_with (text s n) a) h m p h₁ m₁ p₁ → Carried (insert_here (new_text s n) a) h m p h₁ m₁ p₁
     text-some s zero a some c = absurd (some refl)
-    text-some s (suc n) a some c = carried-as (insertHere (newText s (suc n)) a) c refl
+    text-some s (suc n) a some c = carried-as (insert_here (new_text s (suc n)) a) c refl
 
-    pub embed-put : (e : ℕ) (a : Set) → Carried (insertWith (embed e) a) h m p h₁ m₁ p₁ → Carried (insertHere (newEmbed e) a) h m p h₁ m₁ p₁
-    embed-put e a c = carried-as (insertHere (newEmbed e) a) c refl
+    pub embed-put : (e : ℕ) (a : Set) → Carried (insert_with (embed e) a) h m p h₁ m₁ p₁ → Carried (insert_here (new_embed e) a) h m p h₁ m₁ p₁
+    embed-put e a c = carried-as (insert_here (new_embed e) a) c refl
 
     -- the rule of a part, and of an operation, that is known
-    pub by_part : {c d : Inserted} (u : ℕ) (a : Set) → c ≡ d → Carried (insertHere (givenAt u d) a) h m p h₁ m₁ p₁ → Carried (insertHere (givenAt u c) a) h m p h₁ m₁ p₁
-    by_part u a e k = subst⁻¹ (λ (x : Inserted). Carried (insertHere (givenAt u x) a) h m p h₁ m₁ p₁) e k
+    pub by_part : {c d : Inserted} (u : ℕ) (a : Set) → c ≡ d → Carried (insert_here (given_at u d) a) h m p h₁ m₁ p₁ → Carried (insert_here (given_at u c) a) h m p h₁ m₁ p₁
+    by_part u a e k = subst⁻¹ (λ (x : Inserted). Carried (insert_here (given_at u x) a) h m p h₁ m₁ p₁) e k
 
-    pub by-op : {c d : Op} (u : ℕ) (a : Set) → c ≡ d → Carried (ruleOf u a d) h m p h₁ m₁ p₁ → Carried (ruleOf u a c) h m p h₁ m₁ p₁
-    by-op u a e k = subst⁻¹ (λ (x : Op). Carried (ruleOf u a x) h m p h₁ m₁ p₁) e k
+    pub by-op : {c d : Op} (u : ℕ) (a : Set) → c ≡ d → Carried (rule_of u a d) h m p h₁ m₁ p₁ → Carried (rule_of u a c) h m p h₁ m₁ p₁
+    by-op u a e k = subst⁻¹ (λ (x : Op). Carried (rule_of u a x) h m p h₁ m₁ p₁) e k
 
-pub part_room : {c d : Inserted} (u : ℕ) → c ≡ d → u + heldBy c ≤ 16384 → u + heldBy d ≤ 16384
-part_room u e r = subst (λ (x : Inserted). u + heldBy x ≤ 16384) e r
+pub part_room : {c d : Inserted} (u : ℕ) → c ≡ d → u + held_by c ≤ 16384 → u + held_by d ≤ 16384
+part_room u e r = subst (λ (x : Inserted). u + held_by x ≤ 16384) e r
 
 pub op_room : {c d : Op} (u : ℕ) → c ≡ d → u + brings c ≤ 16384 → u + brings d ≤ 16384
 op_room u e r = subst (λ (x : Op). u + brings x ≤ 16384) e r
@@ -59,10 +59,10 @@ pub record Under (ds : List DeltaOp) (goal : At) (i used : ℕ) (h : Head) (m : 
   pub few : h.items ≤ 2048
   pub stands : Standing h m p
   pub room : used + bringing (drop i ds) ≤ 16384
-  pub rest : carryOut (laid used (drop i ds)) (placed h m p) ≡ goal
+  pub rest : carry_out (laid used (drop i ds)) (placed h m p) ≡ goal
 
 pub under-start : (ds : List DeltaOp) (used : ℕ) (h : Head) (m : List ℕ) (p : Place) → Standing h m p → h.items ≤ 2048 → used + bringing ds ≤ 16384
-    → Under ds (carryOut (laid used ds) (placed h m p)) 0 used h m p
+    → Under ds (carry_out (laid used ds) (placed h m p)) 0 used h m p
 under-start ds used h m p s f r = record { few = f; stands = s; room = r; rest = refl }
 
 -- how long the list is in a working copy
@@ -76,12 +76,12 @@ module _ {ds : List DeltaOp} {goal : At} {i used : ℕ} {h : Head} {m : List ℕ
     unfolding bringing
     next-room = omega (arith, o.room, ap bringing is)
 
-    module _ {h₁ : Head} {m₁ : List ℕ} {p₁ : Place} (c : Carried (ruleOf used (says d.attrs) d.op) h m p h₁ m₁ p₁) where
-      next-rest : carryOut (laid (used + brings d.op) (drop (suc i) ds)) (placed h₁ m₁ p₁) ≡ goal
-      unfolding ruleOf laid
+    module _ {h₁ : Head} {m₁ : List ℕ} {p₁ : Place} (c : Carried (rule_of used (says d.attrs) d.op) h m p h₁ m₁ p₁) where
+      next-rest : carry_out (laid (used + brings d.op) (drop (suc i) ds)) (placed h₁ m₁ p₁) ≡ goal
+      unfolding rule_of laid
       next-rest =
-          ap (carryOut (laid (used + brings d.op) (drop (suc i) ds))) c.moved
-          ∙ ap (λ (l : List DeltaOp). carryOut (laid used l) (placed h m p)) (sym is)
+          ap (carry_out (laid (used + brings d.op) (drop (suc i) ds))) c.moved
+          ∙ ap (λ (l : List DeltaOp). carry_out (laid used l) (placed h m p)) (sym is)
           ∙ o.rest
 
       pub under_next : h₁.items ≤ 2048 → (u : ℕ) → u ≡ used + brings d.op → Under ds goal (i + 1) u h₁ m₁ p₁
@@ -92,14 +92,14 @@ module _ {ds : List DeltaOp} {goal : At} {i used : ℕ} {h : Head} {m : List ℕ
       -- too long here is too long in the end
       pub under-long : 2048 < h₁.items → Tried goal h₁ m₁
       under-long l =
-          let more : 2048 < length (whole (carryOut (laid (used + brings d.op) (drop (suc i) ds)) (placed h₁ m₁ p₁))) = omega (arith, placed-length h₁ m₁ p₁, carry-longer (laid (used + brings d.op) (drop (suc i) ds)) (placed h₁ m₁ p₁)) in
+          let more : 2048 < length (whole (carry_out (laid (used + brings d.op) (drop (suc i) ds)) (placed h₁ m₁ p₁))) = omega (arith, placed-length h₁ m₁ p₁, carry-longer (laid (used + brings d.op) (drop (suc i) ds)) (placed h₁ m₁ p₁)) in
           record { fits = λ f. absurd (omega arith); long = λ x. subst (λ (a : At). 2048 < length (whole a)) next-rest more }
 
   -- nothing is left to do
   pub under-done : length ds ≤ i → Tried goal h m
   unfolding laid
   under-done e =
-      let at : placed h m p ≡ goal = ap (λ (l : List DeltaOp). carryOut (laid used l) (placed h m p)) (sym (drop_of_length-le ds e)) ∙ o.rest in
+      let at : placed h m p ≡ goal = ap (λ (l : List DeltaOp). carry_out (laid used l) (placed h m p)) (sym (drop_of_length-le ds e)) ∙ o.rest in
       record {
         fits = λ f. record { arena = o.stands.arena; list = parts h m p ∙ ap whole at; next = ap (λ (a : At). a.next) at };
         long = λ l. absurd (omega (arith, o.few));
@@ -111,8 +111,8 @@ length-map : (X Y : Type 0) (f : X → Y) (l : List X) → length (map f l) ≡ 
 length-map X Y f [] = refl
 length-map X Y f (x ∷ l) = ap suc (length-map X Y f l)
 
-pub length-mapped : (X Y : Type 0) (f : X → Y) (l : List X) (n : ℕ) → length (map f l) ≡ n → length l ≡ n
-length-mapped X Y f l n e = sym (length-map X Y f l) ∙ e
+pub length_mapped : (X Y : Type 0) (f : X → Y) (l : List X) (n : ℕ) → length (map f l) ≡ n → length l ≡ n
+length_mapped X Y f l n e = sym (length-map X Y f l) ∙ e
 
 -- what a read past the end would give
 abbrev pub unread : DeltaOp

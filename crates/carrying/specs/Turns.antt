@@ -4,7 +4,7 @@ use Rattle.sets.specs.Sets.{Set}
 use Rattle.attrs.specs.Packed.{says}
 use Rattle.rules.specs.Reading as rules
 use Rattle.rules.specs.Places.{At, Move, whole}
-use Rattle.rules.specs.Delta.{Given, newText, newEmbed, move}
+use Rattle.rules.specs.Delta.{Given, new_text, new_embed, move}
 use Rattle.layout.specs.declared.head.Head.{Head}
 use Rattle.ops.specs.declared.delta.Inserted.{Inserted}
 use Rattle.ops.specs.declared.delta.Inserted.TheVariants.{Text, Embed}
@@ -15,32 +15,32 @@ use Rattle.ops.specs.declared.delta.Delta.{Delta}
 use Rattle.changes.specs.Frame.{Worked}
 
 -- What an Inserted holds, the units of its text laid behind m others; and how many units that is.
-abbrev pub givenAt : ℕ → Inserted → Given
-givenAt m (Text s n) = newText m n
-givenAt m (Embed e) = newEmbed e
+abbrev pub given_at : ℕ → Inserted → Given
+given_at m (Text s n) = new_text m n
+given_at m (Embed e) = new_embed e
 
-abbrev pub heldBy : Inserted → ℕ
-heldBy (Text s n) = n
-heldBy (Embed e) = 0
+abbrev pub held_by : Inserted → ℕ
+held_by (Text s n) = n
+held_by (Embed e) = 0
 
 abbrev pub brings : Op → ℕ
-brings (Insert i) = heldBy i
+brings (Insert i) = held_by i
 brings (Delete n) = 0
 brings (Retain n) = 0
 
-abbrev pub laidFor : ℕ → Set → Op → rules.Op Given
-laidFor m a (Insert i) = rules.insert (givenAt m i) a
-laidFor m a (Delete n) = rules.delete n
-laidFor m a (Retain n) = rules.retain n a
+abbrev pub laid_for : ℕ → Set → Op → rules.Op Given
+laid_for m a (Insert i) = rules.insert (given_at m i) a
+laid_for m a (Delete n) = rules.delete n
+laid_for m a (Retain n) = rules.retain n a
 
 -- The rule of one operation.
-unfoldable pub ruleOf : ℕ → Set → Op → Move
-ruleOf m a o = move (laidFor m a o)
+unfoldable pub rule_of : ℕ → Set → Op → Move
+rule_of m a o = move (laid_for m a o)
 
 -- All of them, each text's units behind those of the ones before.
 unfoldable pub laid : ℕ → List DeltaOp → List (rules.Op Given)
 laid m [] = []
-laid m (d ∷ ds) = laidFor m (says d.attrs) d.op ∷ laid (m + brings d.op) ds
+laid m (d ∷ ds) = laid_for m (says d.attrs) d.op ∷ laid (m + brings d.op) ds
 
 unfoldable pub bringing : List DeltaOp → ℕ
 bringing [] = 0

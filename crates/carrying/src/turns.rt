@@ -1,9 +1,9 @@
 // The operations of a delta, carried out one after the other in a working copy.
 ghost use Rattle.std.specs.Prelude.{◌≡◌, ◌+◌, ◌≤◌};
 ghost use Rattle.attrs.specs.Packed.{says};
-ghost use Rattle.rules.specs.Delta.{newText, newEmbed, insertHere, carryOut};
+ghost use Rattle.rules.specs.Delta.{new_text, new_embed, insert_here, carry_out};
 ghost use Rattle.arena.specs.Places.{SIZE, Standing, placed, Carried};
-ghost use Rattle.carrying.specs.Turns.{givenAt, heldBy, brings, ruleOf, laid, bringing, given, Tried};
+ghost use Rattle.carrying.specs.Turns.{given_at, held_by, brings, rule_of, laid, bringing, given, Tried};
 
 use arena::{At, Place};
 use attrs::Attrs;
@@ -17,7 +17,7 @@ use removal::delete_here;
 // Empty text does nothing, it does not even settle.
 fn insert_text(h: Head, work: &mut [u64], p: Place, start: u32, len: u32, attrs: Attrs) -> At
     requires { Standing h work.old p × (h.items + 33 ≤ SIZE) × (start + len ≤ 16384) }
-    ensures { Carried (insertHere (newText start len) (says attrs)) h work.old p result.head work.new result.place }
+    ensures { Carried (insert_here (new_text start len) (says attrs)) h work.old p result.head work.new result.place }
 {
     if len == 0 {
         return At { head: h, place: p };
@@ -27,14 +27,14 @@ fn insert_text(h: Head, work: &mut [u64], p: Place, start: u32, len: u32, attrs:
 
 fn insert_embed(h: Head, work: &mut [u64], p: Place, number: u32, attrs: Attrs) -> At
     requires { Standing h work.old p × (h.items + 33 ≤ SIZE) }
-    ensures { Carried (insertHere (newEmbed number) (says attrs)) h work.old p result.head work.new result.place }
+    ensures { Carried (insert_here (new_embed number) (says attrs)) h work.old p result.head work.new result.place }
 {
     insert(h, work, p, Content::Embed(number), attrs)
 }
 
 fn insert_part(h: Head, work: &mut [u64], p: Place, used: u32, part: Inserted, attrs: Attrs) -> At
-    requires { Standing h work.old p × (h.items + 33 ≤ SIZE) × (used + heldBy part ≤ 16384) }
-    ensures { Carried (insertHere (givenAt used part) (says attrs)) h work.old p result.head work.new result.place }
+    requires { Standing h work.old p × (h.items + 33 ≤ SIZE) × (used + held_by part ≤ 16384) }
+    ensures { Carried (insert_here (given_at used part) (says attrs)) h work.old p result.head work.new result.place }
 {
     match part {
         Inserted::Text { start: _, len } => insert_text(h, work, p, used, len, attrs),
@@ -45,7 +45,7 @@ fn insert_part(h: Head, work: &mut [u64], p: Place, used: u32, part: Inserted, a
 // One operation at the place reached; its text's units will stand behind the used ones.
 fn step(h: Head, work: &mut [u64], p: Place, used: u32, op: Op, attrs: Attrs) -> At
     requires { Standing h work.old p × (h.items + 33 ≤ SIZE) × (used + brings op ≤ 16384) }
-    ensures { Carried (ruleOf used (says attrs) op) h work.old p result.head work.new result.place }
+    ensures { Carried (rule_of used (says attrs) op) h work.old p result.head work.new result.place }
 {
     match op {
         Op::Insert(part) => insert_part(h, work, p, used, part, attrs),
@@ -70,7 +70,7 @@ pub fn brought(op: Op) -> u32
 // It stops where the list gets too long, since no operation makes it shorter.
 pub fn carry_out(from: At, work: &mut [u64], used: u32, delta: Delta) -> Head
     requires { Standing from.head work.old from.place × (from.head.items ≤ 2048) × (delta.count ≤ 256) × (used + bringing (given delta) ≤ 16384) }
-    ensures { Tried (carryOut (laid used (given delta)) (placed from.head work.old from.place)) result work.new }
+    ensures { Tried (carry_out (laid used (given delta)) (placed from.head work.old from.place)) result work.new }
 {
     let count = delta.count as usize;
     let mut at = from;

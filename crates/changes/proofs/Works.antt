@@ -11,11 +11,11 @@ use Rattle.units.proofs.Halves.{both}
 use Rattle.sets.specs.Sets.{Set, none}
 use Rattle.rules.specs.Sheet.{Item}
 use Rattle.rules.specs.Places.{At, Move, whole, and_then}
-use Rattle.rules.specs.Edits.{byIndex}
+use Rattle.rules.specs.Edits.{by_index}
 use Rattle.layout.specs.declared.head.Head.{Head}
 use Rattle.layout.specs.Word.{in_range}
 use Rattle.layout.specs.Chain.{END, head_or}
-use Rattle.layout.specs.Heads.{grownHead}
+use Rattle.layout.specs.Heads.{grown_head}
 use Rattle.layout.specs.Memory.{list_of, stored}
 use Rattle.layout.proofs.Links.{distinct, head-is, length-chain}
 use Rattle.layout.proofs.Numbers.{Once, once, walk-below}
@@ -45,14 +45,14 @@ pub changed : {c d : Change} (a : Set) {h : Head} {m : List ℕ} {p : Place} {h�
 changed a {h} {m} {p} {h₁} {m₁} {p₁} e k = subst⁻¹ (λ (x : Change). Carried (move_of x a) h m p h₁ m₁ p₁) e k
 
 pub worked : (i : ℕ) (f : Move) {h : Head} {m : List ℕ} {h₁ : Head} {m₁ : List ℕ} {p₁ : Place} → Arena h m → Carried (in_turn (placing i) f) h m (start_of h) h₁ m₁ p₁
-    → Worked (byIndex i f (list_of h m) h.items) h₁ m₁
+    → Worked (by_index i f (list_of h m) h.items) h₁ m₁
 worked i f {h} {m} {h₁} {m₁} {p₁} a c =
-    let e : placed h₁ m₁ p₁ ≡ byIndex i f (list_of h m) h.items = c.moved ∙ ap (λ (x : At). and_then none x (in_turn (placing i) f)) (start-stands a).at in
+    let e : placed h₁ m₁ p₁ ≡ by_index i f (list_of h m) h.items = c.moved ∙ ap (λ (x : At). and_then none x (in_turn (placing i) f)) (start-stands a).at in
     record { arena = c.stands.arena; list = parts h₁ m₁ p₁ ∙ ap whole e; next = ap (λ (x : At). x.next) e }
 
 -- in the copy, and so in the sheet that was loaded
-pub worked-loaded : (i : ℕ) (f : Move) (n : ℕ) {l l' : List Item} {h₁ : Head} {m₁ : List ℕ} → l ≡ l' → Worked (byIndex i f l n) h₁ m₁ → Worked (byIndex i f l' n) h₁ m₁
-worked-loaded i f n {h₁ = h₁} {m₁} e w = subst (λ (l : List Item). Worked (byIndex i f l n) h₁ m₁) e w
+pub worked_loaded : (i : ℕ) (f : Move) (n : ℕ) {l l' : List Item} {h₁ : Head} {m₁ : List ℕ} → l ≡ l' → Worked (by_index i f l n) h₁ m₁ → Worked (by_index i f l' n) h₁ m₁
+worked_loaded i f n {h₁ = h₁} {m₁} e w = subst (λ (l : List Item). Worked (by_index i f l n) h₁ m₁) e w
 
 -- ---- back
 neat-range : (w : ℕ) → Neat w → in_range w ≡ true
@@ -82,14 +82,14 @@ module _ (p : At) (h : Head) (m : List ℕ) (h₁ : Head) (m₁ : List ℕ) (w :
   unfolding granted
   granted-not used l = rw (lt-leb (length (whole p)) 2048 (omega (arith, worked-count)))
 
-  pub granted-is : (used : ℕ) → h₁.items ≤ 2048 → length m ≡ 2048 → (g : Head) → g ≡ grownHead h h₁.first h₁.items used → (k : List ℕ) → k ≡ copied h₁.items m₁ m
+  pub granted-is : (used : ℕ) → h₁.items ≤ 2048 → length m ≡ 2048 → (g : Head) → g ≡ grown_head h h₁.first h₁.items used → (k : List ℕ) → k ≡ copied h₁.items m₁ m
       → record { refusal = 0; head = g; words = k } ≡ granted p used h m
   unfolding granted
   granted-is used l long g eg k ek =
       rw (le-leb (length (whole p)) 2048 (omega (arith, worked-count)))
-      (ap₂ (λ (x : Head) (y : List ℕ). record { refusal = 0; head = x; words = y }) (eg ∙ ap₂ (λ (a b : ℕ). grownHead h a b used) (sym worked-first) w.next) (ek ∙ worked-stored (omega arith)))
+      (ap₂ (λ (x : Head) (y : List ℕ). record { refusal = 0; head = x; words = y }) (eg ∙ ap₂ (λ (a b : ℕ). grown_head h a b used) (sym worked-first) w.next) (ek ∙ worked-stored (omega arith)))
 
 -- the same by a change that is known
-pub granted-by : {c d : Change} (i : ℕ) (a : Set) (used : ℕ) (h : Head) (m : List ℕ) (x : Left) → x ≡ granted (byIndex i (move_of c a) (list_of h m) h.items) used h m → c ≡ d
-    → x ≡ granted (byIndex i (move_of d a) (list_of h m) h.items) used h m
-granted-by i a used h m x g e = g ∙ ap (λ (y : Change). granted (byIndex i (move_of y a) (list_of h m) h.items) used h m) e
+pub granted_by : {c d : Change} (i : ℕ) (a : Set) (used : ℕ) (h : Head) (m : List ℕ) (x : Left) → x ≡ granted (by_index i (move_of c a) (list_of h m) h.items) used h m → c ≡ d
+    → x ≡ granted (by_index i (move_of d a) (list_of h m) h.items) used h m
+granted_by i a used h m x g e = g ∙ ap (λ (y : Change). granted (by_index i (move_of y a) (list_of h m) h.items) used h m) e

@@ -2,20 +2,20 @@
 use Rattle.sets.specs.Sets.{Set}
 use Rattle.rules.specs.Sheet.{text, embed}
 use Rattle.rules.specs.Places.{Move}
-use Rattle.rules.specs.Edits.{plainText, plainEmbed, insertWith, format, removeHere}
+use Rattle.rules.specs.Edits.{plain_text, plain_embed, insert_with, format, remove_here}
 use Rattle.layout.specs.declared.word.Content.TheVariants.{Text, Embed}
-use Rattle.layout.specs.Word.{whatOf}
+use Rattle.layout.specs.Word.{what_of}
 use Rattle.arena.specs.Places.{InRange}
 use Rattle.changes.specs.declared.change.Change.{Change}
 use Rattle.changes.specs.declared.change.Change.TheVariants.{PlainText, PlainEmbed, With, Format, Remove}
 
 -- The rule that a change follows, with the attribute set that lies beside it.
 unfoldable pub move_of : Change → Set → Move
-move_of (PlainText s n) a = plainText (text s n)
-move_of (PlainEmbed e) a = plainEmbed (embed e)
-move_of (With c) a = insertWith (whatOf c) a
+move_of (PlainText s n) a = plain_text (text s n)
+move_of (PlainEmbed e) a = plain_embed (embed e)
+move_of (With c) a = insert_with (what_of c) a
 move_of (Format n) a = format a n
-move_of (Remove n) a = removeHere n
+move_of (Remove n) a = remove_here n
 
 -- What is put in is in its range.
 abbrev pub Ready : Change → Type 0

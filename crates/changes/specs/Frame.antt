@@ -4,7 +4,7 @@ use Rattle.rules.specs.Places.{At, whole}
 use Rattle.layout.specs.declared.head.Head.{Head}
 use Rattle.items.specs.declared.Answer.{Answer}
 use Rattle.layout.specs.Chain.{walks, head_or}
-use Rattle.layout.specs.Heads.{grownHead}
+use Rattle.layout.specs.Heads.{grown_head}
 use Rattle.layout.specs.Memory.{stored, list_of, Carried}
 use Rattle.arena.specs.Places.{Neat, Arena}
 
@@ -25,7 +25,7 @@ left r m = record { refusal = r.refusal; head = r.head; words = m }
 unfoldable pub granted : At → ℕ → Head → List ℕ → Left
 granted p used h m =
     cond (leb (length (whole p)) 2048)
-    (record { refusal = 0; head = grownHead h (head_or (whole p)) p.next used; words = stored (whole p) m })
+    (record { refusal = 0; head = grown_head h (head_or (whole p)) p.next used; words = stored (whole p) m })
     (record { refusal = 4; head = h; words = m })
 
 -- The words of a sound sheet, as far as its items go.

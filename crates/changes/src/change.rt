@@ -1,7 +1,7 @@
 // What an edit does at the place that its index gives.
 ghost use Rattle.std.specs.Prelude.{◌+◌, ◌≤◌};
 ghost use Rattle.attrs.specs.Packed.{says};
-ghost use Rattle.rules.specs.Edits.{byIndex};
+ghost use Rattle.rules.specs.Edits.{by_index};
 ghost use Rattle.layout.specs.Memory.{list_of};
 ghost use Rattle.arena.specs.Places.{SIZE, Arena, Standing, Carried};
 ghost use Rattle.changes.specs.Changes.{move_of, Ready};
@@ -42,7 +42,7 @@ pub fn change_at(h: Head, work: &mut [u64], p: Place, change: Change, attrs: Att
 
 pub fn change_by_index(h: Head, work: &mut [u64], index: u32, change: Change, attrs: Attrs) -> Head
     requires { Arena h work.old × (h.items + 34 ≤ SIZE) × Ready change }
-    ensures { Worked (byIndex index (move_of change (says attrs)) (list_of h work.old) h.items) result work.new }
+    ensures { Worked (by_index index (move_of change (says attrs)) (list_of h work.old) h.items) result work.new }
 {
     let at = find_position(h, work, index);
     let head = at.head;

@@ -1,7 +1,7 @@
 // An edit in a working copy, and back.
 ghost use Rattle.std.specs.Prelude.{◌≡◌};
 ghost use Rattle.attrs.specs.Packed.{says};
-ghost use Rattle.rules.specs.Edits.{byIndex};
+ghost use Rattle.rules.specs.Edits.{by_index};
 ghost use Rattle.layout.specs.Memory.{list_of};
 ghost use Rattle.changes.specs.Changes.{move_of, Ready};
 ghost use Rattle.changes.specs.Frame.{left, granted, Loadable};
@@ -23,7 +23,7 @@ pub fn edit(
     used: u32,
 ) -> Answer
     requires { Loadable h items.old × Ready change }
-    ensures { left result items.new ≡ granted (byIndex index (move_of change (says attrs)) (list_of h items.old) h.items) used h items.old }
+    ensures { left result items.new ≡ granted (by_index index (move_of change (says attrs)) (list_of h items.old) h.items) used h items.old }
 {
     let mut work = [0u64; 2088];
     copy(h.items, items, &mut work);

@@ -8,26 +8,26 @@ use mathlib.Core.List.{List, [], ◌∷◌}
 use lib.ListN.{length, get_or}
 use Rattle.attrs.specs.declared.Attrs.{Attrs}
 use Rattle.sets.specs.Sets.{Env}
-use Rattle.attrs.specs.Packed.{envOf}
+use Rattle.attrs.specs.Packed.{env_of}
 use Rattle.rules.specs.Sheet.{What, text, embed, mark, width, Item}
-use Rattle.rules.specs.Reading.{live, passKey, visible, Glyph, unit, unitsOf}
+use Rattle.rules.specs.Reading.{live, pass_key, visible, Glyph, unit, units_of}
 use Rattle.rules.specs.Sound.{Fits, AllFit}
-use Rattle.rules.specs.Runs.{words, object, Run as Stretch, runsFrom, ahead, joined}
+use Rattle.rules.specs.Runs.{words, object, Run as Stretch, runs_from, ahead, joined}
 use types.Run.{OneOf}
 use denote.Enum.Declared.{tag_of}
 use Rattle.layout.specs.declared.word.Content.{Content}
 use Rattle.layout.specs.declared.word.Content.TheVariants.{Text, Embed, Mark}
 use Rattle.layout.specs.contracts.word.Content.{the_type}
 use Rattle.layout.specs.declared.word.Item.{Item as Entry}
-use Rattle.layout.specs.Word.{shownLen}
-use Rattle.layout.specs.Word.{whatOf, unpackOf}
+use Rattle.layout.specs.Word.{shown_len}
+use Rattle.layout.specs.Word.{what_of, unpack_of}
 use Rattle.layout.specs.Chain.{chain, item_at, next_at}
 use Rattle.layout.proofs.Links.{walks-lt, walks_next, chain-step}
 use Rattle.cursors.specs.declared.run.Run.{Run}
 use Rattle.cursors.specs.declared.cursor.Spot.{Spot}
 use Rattle.cursors.specs.declared.cursor.Cursor.{Cursor}
-use Rattle.cursors.specs.Records.{recordOf, recordsOf, runsBy}
-use Rattle.cursors.specs.Cursors.{passesOf, markOn, passed_by, past_of, rest, recordsAt, Plain, Stands, textRecord, embedRecord, Skipped, Gathered, Next}
+use Rattle.cursors.specs.Records.{record_of, records_of, runs_by}
+use Rattle.cursors.specs.Cursors.{passes_of, mark_on, passed_by, past_of, rest, records_at, Plain, Stands, text_record, embed_record, Skipped, Gathered, Next}
 use Rattle.cursors.proofs.Forces.{plain-passed, env-passed, count-plain}
 
 -- the item at a place, and the place behind it
@@ -35,7 +35,7 @@ abbrev pub here : List ℕ → Spot → Item
 here m s = item_at m s.at
 
 abbrev pub next : List ℕ → Spot → Spot
-next m s = past_of s (unpackOf (get_or m s.at 0))
+next m s = past_of s (unpack_of (get_or m s.at 0))
 
 pub rest-next : (m : List ℕ) (s : Spot) → 0 < s.todo → rest m s ≡ here m s ∷ rest m (next m s)
 rest-next m s h = chain-step s.todo m s.at h
@@ -55,7 +55,7 @@ pub record Stepped (m : List ℕ) (s : Spot) : Type 0 where
   pub below : s.at < length m
   pub used : ℕ
   pub fits : Fits used (here m s).what
-  pub sum : s.passed + shownLen (here m s).flags.dead (here m s).what < 4294967296
+  pub sum : s.passed + shown_len (here m s).flags.dead (here m s).what < 4294967296
   pub stands : Stands m (next m s)
 
 pub steps : (m : List ℕ) (s : Spot) → Stands m s → 0 < s.todo → Stepped m s
@@ -81,44 +81,44 @@ steps m s st h =
 
 -- ---- between runs
 
-pass-runs : (i : Item) (e : Env) (l : List Item) → passesOf i.flags.dead i.what ≡ true
-    → runsFrom [] e (i ∷ l) ≡ runsFrom [] (λ k. passKey live k i (e k)) l
-unfolding passesOf
+pass-runs : (i : Item) (e : Env) (l : List Item) → passes_of i.flags.dead i.what ≡ true
+    → runs_from [] e (i ∷ l) ≡ runs_from [] (λ k. pass_key live k i (e k)) l
+unfolding passes_of
 pass-runs i e l = go i.flags.dead i.what
   where
-    go : (d : Bool) (w : What) → passesOf d w ≡ true
+    go : (d : Bool) (w : What) → passes_of d w ≡ true
         → (let j : Item = record { num = i.num; what = w; flags = record { dead = d; added = i.flags.added; gone = i.flags.gone } } in
-        runsFrom [] e (j ∷ l) ≡ runsFrom [] (λ k. passKey live k j (e k)) l)
+        runs_from [] e (j ∷ l) ≡ runs_from [] (λ k. pass_key live k j (e k)) l)
     go true w p = refl
     go false (text s n) p = absurd (true≢false (sym p))
     go false (embed x) p = absurd (true≢false (sym p))
     go false (mark k v) p = refl
 
-pass-width : (d : Bool) (w : What) → passesOf d w ≡ true → shownLen d w ≡ 0
-unfolding passesOf
+pass-width : (d : Bool) (w : What) → passes_of d w ≡ true → shown_len d w ≡ 0
+unfolding passes_of
 pass-width true w p = refl
 pass-width false (text s n) p = absurd (true≢false (sym p))
 pass-width false (embed x) p = absurd (true≢false (sym p))
 pass-width false (mark k v) p = refl
 
-pub skip-turn : (j : Bool) (m : List ℕ) (s : Spot) → Stands m s → 0 < s.todo → passesOf (here m s).flags.dead (here m s).what ≡ true
-    → recordsAt j m s ≡ recordsAt j m (next m s)
-unfolding recordsAt
-skip-turn j m s st h p =
+pub skip_turn : (j : Bool) (m : List ℕ) (s : Spot) → Stands m s → 0 < s.todo → passes_of (here m s).flags.dead (here m s).what ≡ true
+    → records_at j m s ≡ records_at j m (next m s)
+unfolding records_at
+skip_turn j m s st h p =
     let t = steps m s st h in
     let w = pass-width (here m s).flags.dead (here m s).what p in
     let e = env-passed s.force t.used (here m s) t.fits in
-    let same : s.passed + shownLen (here m s).flags.dead (here m s).what ≡ s.passed = omega arith in
-    ap (λ (l : List Item). recordsOf s.passed (runsBy j (runsFrom [] (envOf s.force) l))) (rest-next m s h)
-    ∙ ap (λ (l : List Stretch). recordsOf s.passed (runsBy j l)) (pass-runs (here m s) (envOf s.force) (rest m (next m s)) p)
-    ∙ ap₂ (λ (n : ℕ) (f : Env). recordsOf n (runsBy j (runsFrom [] f (rest m (next m s))))) (sym same) (sym e)
+    let same : s.passed + shown_len (here m s).flags.dead (here m s).what ≡ s.passed = omega arith in
+    ap (λ (l : List Item). records_of s.passed (runs_by j (runs_from [] (env_of s.force) l))) (rest-next m s h)
+    ∙ ap (λ (l : List Stretch). records_of s.passed (runs_by j l)) (pass-runs (here m s) (env_of s.force) (rest m (next m s)) p)
+    ∙ ap₂ (λ (n : ℕ) (f : Env). records_of n (runs_by j (runs_from [] f (rest m (next m s))))) (sym same) (sym e)
 
 -- no item, no record
-pub records-none : (j : Bool) (m : List ℕ) (s : Spot) → s.todo ≡ 0 → recordsAt j m s ≡ []
-unfolding recordsAt recordsOf runsBy
-records-none j m s e = ap (λ (l : List Item). recordsOf s.passed (runsBy j (runsFrom [] (envOf s.force) l))) (rest-none m s e) ∙ go j
+pub records-none : (j : Bool) (m : List ℕ) (s : Spot) → s.todo ≡ 0 → records_at j m s ≡ []
+unfolding records_at records_of runs_by
+records-none j m s e = ap (λ (l : List Item). records_of s.passed (runs_by j (runs_from [] (env_of s.force) l))) (rest-none m s e) ∙ go j
   where
-    go : (j : Bool) → recordsOf s.passed (runsBy j []) ≡ []
+    go : (j : Bool) → records_of s.passed (runs_by j []) ≡ []
     go true = refl
     go false = refl
 
@@ -129,17 +129,17 @@ embed-ahead x e [] = refl
 embed-ahead x e (s ∷ rs) = refl
 
 embed-runs : (j : Bool) (x : ℕ) (e : Env) (rs : List Stretch)
-    → runsBy j (record { chunk = object x; force = e } ∷ rs) ≡ record { chunk = object x; force = e } ∷ runsBy j rs
-unfolding runsBy
+    → runs_by j (record { chunk = object x; force = e } ∷ rs) ≡ record { chunk = object x; force = e } ∷ runs_by j rs
+unfolding runs_by
 embed-runs true x e rs = embed-ahead x e (joined rs)
 embed-runs false x e rs = refl
 
 -- a record over a set by value is one over what it puts in force
-pub text-record : (a : ℕ) (gs : List Glyph) (f : Attrs) → Plain f → recordOf a (record { chunk = words gs; force = envOf f }) ≡ textRecord a (length gs) f
+pub text-record : (a : ℕ) (gs : List Glyph) (f : Attrs) → Plain f → record_of a (record { chunk = words gs; force = env_of f }) ≡ text_record a (length gs) f
 text-record a gs f p =
     ap₂ (λ (n : ℕ) (b : Attrs). record { embed = false; start = a; len = length gs; number = 0; count = n; attrs = b }) (sym (count-plain f p)) (sym p)
 
-embed-record : (a x : ℕ) (f : Attrs) → Plain f → recordOf a (record { chunk = object x; force = envOf f }) ≡ embedRecord a x f
+embed-record : (a x : ℕ) (f : Attrs) → Plain f → record_of a (record { chunk = object x; force = env_of f }) ≡ embed_record a x f
 embed-record a x f p =
     ap₂ (λ (n : ℕ) (b : Attrs). record { embed = true; start = a; len = 1; number = x; count = n; attrs = b }) (sym (count-plain f p)) (sym p)
 
@@ -152,57 +152,57 @@ live-item i w d e =
 
 module _ (m : List ℕ) (s : Spot) (w : What) (awake : (here m s).flags.dead ≡ false) (is : (here m s).what ≡ w) where
   -- the place behind it
-  pub next-live : next m s ≡ record { at = next_at m s.at; todo = s.todo - 1; passed = s.passed + width w; force = markOn s.force w }
+  pub next-live : next m s ≡ record { at = next_at m s.at; todo = s.todo - 1; passed = s.passed + width w; force = mark_on s.force w }
   unfolding passed_by
   next-live =
-      ap₂ (λ (x : Bool) (y : What). record { at = next_at m s.at; todo = s.todo - 1; passed = s.passed + shownLen x y; force = passed_by s.force x y }) awake is
+      ap₂ (λ (x : Bool) (y : What). record { at = next_at m s.at; todo = s.todo - 1; passed = s.passed + shown_len x y; force = passed_by s.force x y }) awake is
 
   pub rest_live : 0 < s.todo
       → rest m s ≡ record { num = s.at; what = w; flags = record { dead = false; added = (here m s).flags.added; gone = (here m s).flags.gone } } ∷ rest m (next m s)
   rest_live h = rest-next m s h ∙ ap (λ (i : Item). i ∷ rest m (next m s)) (live-item (here m s) w awake is)
 
 module _ (j : Bool) (m : List ℕ) (s : Spot) (st : Stands m s) (h : 0 < s.todo) (awake : (here m s).flags.dead ≡ false) where
-  pub embed-here : (x : ℕ) → (here m s).what ≡ embed x → recordsAt j m s ≡ embedRecord s.passed x s.force ∷ recordsAt j m (next m s)
-  unfolding recordsAt recordsOf markOn
+  pub embed-here : (x : ℕ) → (here m s).what ≡ embed x → records_at j m s ≡ embed_record s.passed x s.force ∷ records_at j m (next m s)
+  unfolding records_at records_of mark_on
   embed-here x is =
-      ap (λ (l : List Item). recordsOf s.passed (runsBy j (runsFrom [] (envOf s.force) l))) (rest_live m s (embed x) awake is h)
-      ∙ ap (recordsOf s.passed) (embed-runs j x (envOf s.force) (runsFrom [] (envOf s.force) (rest m (next m s))))
-      ∙ ap (λ (r : Run). r ∷ recordsOf (s.passed + 1) (runsBy j (runsFrom [] (envOf s.force) (rest m (next m s))))) (embed-record s.passed x s.force st.plain)
-      ∙ ap (λ (t : Spot). embedRecord s.passed x s.force ∷ recordsOf t.passed (runsBy j (runsFrom [] (envOf t.force) (rest m (next m s))))) (sym (next-live m s (embed x) awake is))
+      ap (λ (l : List Item). records_of s.passed (runs_by j (runs_from [] (env_of s.force) l))) (rest_live m s (embed x) awake is h)
+      ∙ ap (records_of s.passed) (embed-runs j x (env_of s.force) (runs_from [] (env_of s.force) (rest m (next m s))))
+      ∙ ap (λ (r : Run). r ∷ records_of (s.passed + 1) (runs_by j (runs_from [] (env_of s.force) (rest m (next m s))))) (embed-record s.passed x s.force st.plain)
+      ∙ ap (λ (t : Spot). embed_record s.passed x s.force ∷ records_of t.passed (runs_by j (runs_from [] (env_of t.force) (rest m (next m s))))) (sym (next-live m s (embed x) awake is))
 
   -- a text run begins
-  pub text-here : (a n : ℕ) → (here m s).what ≡ text a n → recordsAt j m s ≡ recordsOf s.passed (runsBy j (runsFrom (unitsOf a n) (envOf (next m s).force) (rest m (next m s))))
-  unfolding recordsAt markOn
+  pub text-here : (a n : ℕ) → (here m s).what ≡ text a n → records_at j m s ≡ records_of s.passed (runs_by j (runs_from (units_of a n) (env_of (next m s).force) (rest m (next m s))))
+  unfolding records_at mark_on
   text-here a n is =
-      ap (λ (l : List Item). recordsOf s.passed (runsBy j (runsFrom [] (envOf s.force) l))) (rest_live m s (text a n) awake is h)
-      ∙ ap (λ (t : Spot). recordsOf s.passed (runsBy j (runsFrom (unitsOf a n) (envOf t.force) (rest m (next m s))))) (sym (next-live m s (text a n) awake is))
+      ap (λ (l : List Item). records_of s.passed (runs_by j (runs_from [] (env_of s.force) l))) (rest_live m s (text a n) awake is h)
+      ∙ ap (λ (t : Spot). records_of s.passed (runs_by j (runs_from (units_of a n) (env_of t.force) (rest m (next m s))))) (sym (next-live m s (text a n) awake is))
 
-pub length-units : (a n : ℕ) → length (unitsOf a n) ≡ n
+pub length-units : (a n : ℕ) → length (units_of a n) ≡ n
 length-units a zero = refl
 length-units a (suc n) = ap suc (length-units (suc a) n)
 
-pub units-some : (a n : ℕ) → 0 < n → unitsOf a n ≡ unit a ∷ unitsOf (suc a) (n - 1)
+pub units-some : (a n : ℕ) → 0 < n → units_of a n ≡ unit a ∷ units_of (suc a) (n - 1)
 units-some a zero h = absurd (omega arith)
 units-some a (suc n) h = let e : suc n - 1 ≡ n = omega arith in rw e
 
 -- .. and is gathered up to where it ends
 pub text-gathered : (j : Bool) (m : List ℕ) (s : Spot) (st : Stands m s) (h : 0 < s.todo) (awake : (here m s).flags.dead ≡ false) (a n : ℕ) → (here m s).what ≡ text a n → 0 < n
-    → (r : Spot) → Gathered j m (next m s) r → recordsAt j m s ≡ textRecord s.passed (r.passed - s.passed) s.force ∷ recordsAt j m r
-unfolding markOn
+    → (r : Spot) → Gathered j m (next m s) r → records_at j m s ≡ text_record s.passed (r.passed - s.passed) s.force ∷ records_at j m r
+unfolding mark_on
 text-gathered j m s st h awake a n is some r g =
     let on = next-live m s (text a n) awake is in
-    let long : s.passed + length (unit a ∷ unitsOf (suc a) (n - 1)) ≡ (next m s).passed =
+    let long : s.passed + length (unit a ∷ units_of (suc a) (n - 1)) ≡ (next m s).passed =
     ap (λ (l : List Glyph). s.passed + length l) (sym (units-some a n some)) ∙ ap (λ (k : ℕ). s.passed + k) (length-units a n) ∙ ap (λ (t : Spot). t.passed) (sym on) in
     text-here j m s st h awake a n is
-    ∙ ap (λ (l : List Glyph). recordsOf s.passed (runsBy j (runsFrom l (envOf (next m s).force) (rest m (next m s))))) (units-some a n some)
-    ∙ g.run s.passed (unit a) (unitsOf (suc a) (n - 1)) long
-    ∙ ap (λ (t : Spot). textRecord s.passed (r.passed - s.passed) t.force ∷ recordsAt j m r) on
+    ∙ ap (λ (l : List Glyph). records_of s.passed (runs_by j (runs_from l (env_of (next m s).force) (rest m (next m s))))) (units-some a n some)
+    ∙ g.run s.passed (unit a) (units_of (suc a) (n - 1)) long
+    ∙ ap (λ (t : Spot). text_record s.passed (r.passed - s.passed) t.force ∷ records_at j m r) on
 
 -- ---- the next run
 
 -- no deleted item
-awake-of : (d : Bool) (w : What) → passesOf d w ≡ false → d ≡ false
-unfolding passesOf
+awake-of : (d : Bool) (w : What) → passes_of d w ≡ false → d ≡ false
+unfolding passes_of
 awake-of true w p = p
 awake-of false w p = refl
 
@@ -213,8 +213,8 @@ record Other (w : What) : Type 0 where
   pub some : 0 < len
 
 -- what is not passed and no embed is a text, and no text is empty
-other : (c : Content) (used : ℕ) (d : Bool) → OneOf (0 ∷ 2 ∷ []) (tag_of the_type c) → passesOf d (whatOf c) ≡ false → Fits used (whatOf c) → Other (whatOf c)
-unfolding passesOf
+other : (c : Content) (used : ℕ) (d : Bool) → OneOf (0 ∷ 2 ∷ []) (tag_of the_type c) → passes_of d (what_of c) ≡ false → Fits used (what_of c) → Other (what_of c)
+unfolding passes_of
 other (Text s n) used d t p f = record { start = s; len = n; is = refl; some = f.0 }
 other (Embed x) used d t p f = absurd (⊎_elim (λ e. omega arith) (λ e. omega arith) t)
 other (Mark k v) used true t p f = absurd (true≢false p)
@@ -229,7 +229,7 @@ module _ (j : Bool) (m : List ℕ) (c : Cursor) (s : Spot) (sk : Skipped m c.spo
     awake : (here m s).flags.dead ≡ false
     awake = awake-of (here m s).flags.dead (here m s).what (sk.stops h)
 
-    pub next-embed : (x : ℕ) → (here m s).what ≡ embed x → Next j m c (record { spot = next m s; found = true; run = embedRecord s.passed x s.force })
+    pub next-embed : (x : ℕ) → (here m s).what ≡ embed x → Next j m c (record { spot = next m s; found = true; run = embed_record s.passed x s.force })
     next-embed x is =
         record {
           stands = (steps m s sk.stands h).stands;
@@ -237,11 +237,11 @@ module _ (j : Bool) (m : List ℕ) (c : Cursor) (s : Spot) (sk : Skipped m c.spo
           fewer = omega (arith, sk.fewer);
         }
 
-    pub next-text : (it : Entry) → it ≡ unpackOf (get_or m s.at 0) → OneOf (0 ∷ 2 ∷ []) (tag_of the_type it.content) → (r : Spot) → Gathered j m (next m s) r
-        → Next j m c (record { spot = r; found = true; run = textRecord s.passed (r.passed - s.passed) s.force })
+    pub next-text : (it : Entry) → it ≡ unpack_of (get_or m s.at 0) → OneOf (0 ∷ 2 ∷ []) (tag_of the_type it.content) → (r : Spot) → Gathered j m (next m s) r
+        → Next j m c (record { spot = r; found = true; run = text_record s.passed (r.passed - s.passed) s.force })
     next-text it e k r g =
         let t = steps m s sk.stands h in
-        let o = other (unpackOf (get_or m s.at 0)).content t.used (here m s).flags.dead (subst (λ (i : Entry). OneOf (0 ∷ 2 ∷ []) (tag_of the_type i.content)) e k) (sk.stops h) t.fits in
+        let o = other (unpack_of (get_or m s.at 0)).content t.used (here m s).flags.dead (subst (λ (i : Entry). OneOf (0 ∷ 2 ∷ []) (tag_of the_type i.content)) e k) (sk.stops h) t.fits in
         record {
           stands = g.stands;
           runs = sk.same j ∙ text-gathered j m s sk.stands h awake o.start o.len o.is o.some r g;

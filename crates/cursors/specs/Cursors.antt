@@ -1,53 +1,53 @@
 -- The walk from run to run: what each item does to it, and what is found.
 use Rattle.std.specs.Prelude.{ℕ, ◌+◌, ◌-◌, ◌<◌, ◌≤◌, ◌≡◌, Bool, true, false, cond, not, ◌||◌, List, [], ◌∷◌, length, drop}
-use Rattle.sets.specs.Sets.{empty, keys, asSet, sameSets, present}
-use Rattle.attrs.specs.Packed.{says, envOf, packed, updateAt}
+use Rattle.sets.specs.Sets.{empty, keys, as_set, same_sets, present}
+use Rattle.attrs.specs.Packed.{says, env_of, packed, update_at}
 use Rattle.attrs.specs.declared.Attrs.{Attrs}
-use Rattle.rules.specs.Sheet.{What, text, embed, mark, isMark, Item}
+use Rattle.rules.specs.Sheet.{What, text, embed, mark, is_mark, Item}
 use Rattle.rules.specs.Reading.{visible, Glyph}
-use Rattle.rules.specs.Runs.{runsFrom}
+use Rattle.rules.specs.Runs.{runs_from}
 use Rattle.rules.specs.Sound.{AllFit}
-use Rattle.layout.specs.Word.{shownLen}
+use Rattle.layout.specs.Word.{shown_len}
 use Rattle.layout.specs.declared.word.Item.{Item as Entry}
 use Rattle.layout.specs.declared.head.Head.{Head}
-use Rattle.layout.specs.Word.{whatOf}
+use Rattle.layout.specs.Word.{what_of}
 use Rattle.layout.specs.Chain.{chain, walks, item_at}
 use Rattle.cursors.specs.declared.run.Run.{Run}
 use Rattle.cursors.specs.declared.cursor.Spot.{Spot}
 use Rattle.cursors.specs.declared.cursor.Cursor.{Cursor}
-use Rattle.cursors.specs.Records.{blank, recordsOf, runsBy, recordsFrom}
+use Rattle.cursors.specs.Records.{blank, records_of, runs_by, records_from}
 
 -- ---- one item, by whether it is deleted, and what it is
 
 -- Between two runs: a deleted item, or a mark.
-unfoldable pub passesOf : Bool → What → Bool
-passesOf d w = d || isMark w
+unfoldable pub passes_of : Bool → What → Bool
+passes_of d w = d || is_mark w
 
 -- What is in force behind it.
-unfoldable pub markOn : Attrs → What → Attrs
-markOn a (text s n) = a
-markOn a (embed x) = a
-markOn a (mark k v) = (updateAt a k v).attrs
+unfoldable pub mark_on : Attrs → What → Attrs
+mark_on a (text s n) = a
+mark_on a (embed x) = a
+mark_on a (mark k v) = (update_at a k v).attrs
 
 unfoldable pub passed_by : Attrs → Bool → What → Attrs
-passed_by a d w = cond d a (markOn a w)
+passed_by a d w = cond d a (mark_on a w)
 
 -- Does it end a text run: a text on which something else is in force, an embed, and a mark unless runs are joined.
-unfoldable pub stopsAt : Bool → Bool → What → Bool
-stopsAt j same (text s n) = not same
-stopsAt j same (embed x) = true
-stopsAt j same (mark k v) = not j
+unfoldable pub stops_at : Bool → Bool → What → Bool
+stops_at j same (text s n) = not same
+stops_at j same (embed x) = true
+stops_at j same (mark k v) = not j
 
-unfoldable pub endsBy : Bool → Attrs → Attrs → Bool → What → Bool
-endsBy j f e d w = cond d false (stopsAt j (sameSets keys (says f) (says e)) w)
+unfoldable pub ends_by : Bool → Attrs → Attrs → Bool → What → Bool
+ends_by j f e d w = cond d false (stops_at j (same_sets keys (says f) (says e)) w)
 
 abbrev pub past_of : Spot → Entry → Spot
 past_of s it =
     record {
       at = it.next;
       todo = s.todo - 1;
-      passed = s.passed + shownLen it.dead (whatOf it.content);
-      force = passed_by s.force it.dead (whatOf it.content);
+      passed = s.passed + shown_len it.dead (what_of it.content);
+      force = passed_by s.force it.dead (what_of it.content);
     }
 
 -- ---- a place
@@ -56,12 +56,12 @@ abbrev pub rest : List ℕ → Spot → List Item
 rest m s = chain s.todo m s.at
 
 -- The records from here on.
-unfoldable pub recordsAt : Bool → List ℕ → Spot → List Run
-recordsAt j m s = recordsFrom j s.passed (envOf s.force) (rest m s)
+unfoldable pub records_at : Bool → List ℕ → Spot → List Run
+records_at j m s = records_from j s.passed (env_of s.force) (rest m s)
 
 -- A set with no nulls and no byte that no reader sees: what is in force.
 abbrev pub Plain : Attrs → Type 0
-Plain a = a ≡ packed (asSet (envOf a))
+Plain a = a ≡ packed (as_set (env_of a))
 
 -- What the walk asks of a place: the links go on to the end, the items are in order, and no sum wraps.
 pub record Stands (m : List ℕ) (s : Spot) : Type 0 where
@@ -73,11 +73,11 @@ pub record Stands (m : List ℕ) (s : Spot) : Type 0 where
 
 -- ---- a run
 
-abbrev pub textRecord : ℕ → ℕ → Attrs → Run
-textRecord s n a = record { embed = false; start = s; len = n; number = 0; count = length (present keys (says a)); attrs = a }
+abbrev pub text_record : ℕ → ℕ → Attrs → Run
+text_record s n a = record { embed = false; start = s; len = n; number = 0; count = length (present keys (says a)); attrs = a }
 
-abbrev pub embedRecord : ℕ → ℕ → Attrs → Run
-embedRecord s x a = record { embed = true; start = s; len = 1; number = x; count = length (present keys (says a)); attrs = a }
+abbrev pub embed_record : ℕ → ℕ → Attrs → Run
+embed_record s x a = record { embed = true; start = s; len = 1; number = x; count = length (present keys (says a)); attrs = a }
 
 abbrev pub start_of : Head → Cursor
 start_of h =
@@ -90,21 +90,21 @@ start_of h =
 -- The place of the next text or embed: the records are the same from there.
 pub record Skipped (m : List ℕ) (s r : Spot) : Type 0 where
   pub stands : Stands m r
-  pub same : (j : Bool) → recordsAt j m s ≡ recordsAt j m r
-  pub stops : 0 < r.todo → passesOf (item_at m r.at).flags.dead (item_at m r.at).what ≡ false
+  pub same : (j : Bool) → records_at j m s ≡ records_at j m r
+  pub stops : 0 < r.todo → passes_of (item_at m r.at).flags.dead (item_at m r.at).what ≡ false
   pub fewer : r.todo ≤ s.todo
 
 -- Where a text run ends that has some units to the left of s: it is one record, and the records go on behind it.
 pub record Gathered (j : Bool) (m : List ℕ) (s r : Spot) : Type 0 where
   pub stands : Stands m r
   pub run : (a : ℕ) (g : Glyph) (gs : List Glyph) → a + length (g ∷ gs) ≡ s.passed
-      → recordsOf a (runsBy j (runsFrom (g ∷ gs) (envOf s.force) (rest m s))) ≡ textRecord a (r.passed - a) s.force ∷ recordsAt j m r
+      → records_of a (runs_by j (runs_from (g ∷ gs) (env_of s.force) (rest m s))) ≡ text_record a (r.passed - a) s.force ∷ records_at j m r
   pub fewer : r.todo ≤ s.todo
   pub on : s.passed ≤ r.passed
 
 -- What a cursor has found, and the records behind it.
 abbrev pub found : Bool → List ℕ → Cursor → List Run
-found j m c = cond c.found (c.run ∷ recordsAt j m c.spot) []
+found j m c = cond c.found (c.run ∷ records_at j m c.spot) []
 
 abbrev pub one : Bool → ℕ
 one b = cond b 1 0
@@ -112,13 +112,13 @@ one b = cond b 1 0
 -- The next run and the place behind it, or no more.
 pub record Next (j : Bool) (m : List ℕ) (c r : Cursor) : Type 0 where
   pub stands : Stands m r.spot
-  pub runs : recordsAt j m c.spot ≡ found j m r
+  pub runs : records_at j m c.spot ≡ found j m r
   pub fewer : one r.found + r.spot.todo ≤ c.spot.todo
 
 -- How many runs are left.
 pub record Tallied (j : Bool) (m : List ℕ) (c : Cursor) (r : ℕ) : Type 0 where
-  pub is : r ≡ length (recordsAt j m c.spot)
+  pub is : r ≡ length (records_at j m c.spot)
 
 -- The run n places behind the next.
 pub record Nth (j : Bool) (m : List ℕ) (n : ℕ) (c r : Cursor) : Type 0 where
-  pub runs : drop n (recordsAt j m c.spot) ≡ found j m r
+  pub runs : drop n (records_at j m c.spot) ≡ found j m r

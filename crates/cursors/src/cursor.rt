@@ -1,7 +1,7 @@
 // The next run, from a place in the list: by value, so that whoever reads on goes on where the run before ended.
 ghost use Rattle.std.specs.Prelude.{◌≡◌, ◌+◌, ◌<◌};
-ghost use Rattle.layout.specs.Word.{whatOf, shownLen};
-ghost use Rattle.cursors.specs.Cursors.{passesOf, markOn, stopsAt, endsBy, past_of, textRecord, embedRecord, start_of, Stands, Skipped, Gathered, Next};
+ghost use Rattle.layout.specs.Word.{what_of, shown_len};
+ghost use Rattle.cursors.specs.Cursors.{passes_of, mark_on, stops_at, ends_by, past_of, text_record, embed_record, start_of, Stands, Skipped, Gathered, Next};
 
 use crate::run::Run;
 use attrs::Attrs;
@@ -45,7 +45,7 @@ impl Cursor {
 
 // Between two runs: a deleted item, or a mark.
 fn passes(it: Item) -> bool
-    ensures { result ≡ passesOf it.dead (whatOf it.content) }
+    ensures { result ≡ passes_of it.dead (what_of it.content) }
 {
     if it.dead {
         return true;
@@ -59,7 +59,7 @@ fn passes(it: Item) -> bool
 }
 
 fn mark_on(force: Attrs, c: Content) -> Attrs
-    ensures { result ≡ markOn force (whatOf c) }
+    ensures { result ≡ mark_on force (what_of c) }
 {
     match c {
         Content::Text { start: _, len: _ } => force,
@@ -69,7 +69,7 @@ fn mark_on(force: Attrs, c: Content) -> Attrs
 }
 
 fn stops(joined: bool, same: bool, c: Content) -> bool
-    ensures { result ≡ stopsAt joined same (whatOf c) }
+    ensures { result ≡ stops_at joined same (what_of c) }
 {
     match c {
         Content::Text { start: _, len: _ } => !same,
@@ -80,7 +80,7 @@ fn stops(joined: bool, same: bool, c: Content) -> bool
 
 // Does the item end a text run with `run` in force?
 fn ends(joined: bool, run: Attrs, force: Attrs, it: Item) -> bool
-    ensures { result ≡ endsBy joined run force it.dead (whatOf it.content) }
+    ensures { result ≡ ends_by joined run force it.dead (what_of it.content) }
 {
     if it.dead {
         return false;
@@ -92,7 +92,7 @@ fn ends(joined: bool, run: Attrs, force: Attrs, it: Item) -> bool
 // The place behind its item.
 fn past(s: Spot, it: Item) -> Spot
     requires todo_nonzero { 0 < s.todo }
-    requires content_bound { s.passed + shownLen it.dead (whatOf it.content) < 4294967296 }
+    requires content_bound { s.passed + shown_len it.dead (what_of it.content) < 4294967296 }
     ensures { result ≡ past_of s it }
 {
     let mut r = s;
@@ -144,7 +144,7 @@ fn gather(items: &[u64], joined: bool, from: Spot) -> Spot
 }
 
 fn text_run(start: u32, len: u32, attrs: Attrs) -> Run
-    ensures { result ≡ textRecord start len attrs }
+    ensures { result ≡ text_record start len attrs }
 {
     Run {
         embed: false,
@@ -157,7 +157,7 @@ fn text_run(start: u32, len: u32, attrs: Attrs) -> Run
 }
 
 fn embed_run(start: u32, number: u32, attrs: Attrs) -> Run
-    ensures { result ≡ embedRecord start number attrs }
+    ensures { result ≡ embed_record start number attrs }
 {
     Run {
         embed: true,

@@ -9,16 +9,16 @@ use Rattle.rules.specs.Reading.{visible}
 use Rattle.rules.specs.Rulings.{seen}
 use Rattle.laws.proofs.Shows.{length_seen}
 use Rattle.layout.specs.declared.head.Head.{Head}
-use Rattle.layout.specs.Memory.{list_of, modelOf, soundOf}
+use Rattle.layout.specs.Memory.{list_of, model_of, sound_of}
 use Rattle.layout.proofs.Soundness.{sound-parts}
 use Rattle.layout.proofs.Models.{used-length, model-sound}
 use Rattle.cuts.specs.Cuts.{Readable}
 
 -- the length that is read is the rules'
-pub length-is : (h : Head) (m u : List ℕ) (n : ℕ) → n ≡ visible (list_of h m) → n ≡ length (seen (modelOf h m u))
-length-is h m u n e = e ∙ sym (length_seen (modelOf h m u))
+pub length-is : (h : Head) (m u : List ℕ) (n : ℕ) → n ≡ visible (list_of h m) → n ≡ length (seen (model_of h m u))
+length-is h m u n e = e ∙ sym (length_seen (model_of h m u))
 
-module _ (h : Head) (m u : List ℕ) (ok : soundOf h m u ≡ true) where
+module _ (h : Head) (m u : List ℕ) (ok : sound_of h m u ≡ true) where
   pub used-is : h.units ≡ length (take h.units u)
   used-is = sym (used-length h m u (sound-parts h m u ok))
 

@@ -1,6 +1,6 @@
 -- Where an index falls in a list of items.
 use Rattle.std.specs.Prelude.{ℕ, ◌+◌, ◌-◌, ◌≤◌, Bool, true, false, cond, List, [], ◌∷◌, ◌≡◌, length, take, drop, ltb}
-use Rattle.units.specs.Surrogates.{splitsPair}
+use Rattle.units.specs.Surrogates.{splits_pair}
 use Rattle.rules.specs.Sheet.{What, text, embed, mark, Item}
 use Rattle.rules.specs.Places.{uses}
 use Rattle.rules.specs.Sound.{AllFit}
@@ -10,15 +10,15 @@ use Rattle.layout.specs.Memory.{list_of}
 use Rattle.layout.specs.declared.head.Head.{Head}
 
 -- Does the count n cut a pair of this piece?
-abbrev pub cutsPiece : List ℕ → What → ℕ → Bool
-cutsPiece us (text s w) n = splitsPair (take w (drop s us)) n
-cutsPiece us (embed e) n = false
-cutsPiece us (mark k v) n = false
+abbrev pub cuts_piece : List ℕ → What → ℕ → Bool
+cuts_piece us (text s w) n = splits_pair (take w (drop s us)) n
+cuts_piece us (embed e) n = false
+cuts_piece us (mark k v) n = false
 
 -- Does the index n cut a pair of the piece that it falls into?
 unfoldable pub cut_at : List ℕ → ℕ → List Item → Bool
 cut_at us n [] = false
-cut_at us n (i ∷ l) = cond (ltb n (uses i)) (cutsPiece us i.what n) (cut_at us (n - uses i) l)
+cut_at us n (i ∷ l) = cond (ltb n (uses i)) (cuts_piece us i.what n) (cut_at us (n - uses i) l)
 
 -- A text that lies within n units.
 abbrev pub Lies : ℕ → What → Type 0

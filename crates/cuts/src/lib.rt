@@ -1,17 +1,17 @@
 // Whether an index into the visible text falls inside a surrogate pair. Pieces hold no half pairs, so one piece decides.
 ghost use Rattle.std.specs.Prelude.{◌≡◌, length};
-ghost use Rattle.units.specs.Surrogates.{splitsPair};
-ghost use Rattle.rules.specs.Calls.{visibleUnits};
-ghost use Rattle.layout.specs.Word.{whatOf};
+ghost use Rattle.units.specs.Surrogates.{splits_pair};
+ghost use Rattle.rules.specs.Calls.{visible_units};
+ghost use Rattle.layout.specs.Word.{what_of};
 ghost use Rattle.layout.specs.Memory.{list_of};
-ghost use Rattle.cuts.specs.Cuts.{cutsPiece, Lies, Readable};
+ghost use Rattle.cuts.specs.Cuts.{cuts_piece, Lies, Readable};
 
 use layout::head::Head;
 use layout::word::{Content, shown_len, unpack};
 
 fn cuts_piece(c: Content, used: &[u16], index: u32) -> bool
-    requires { Lies (length used.now) (whatOf c) }
-    ensures { result ≡ cutsPiece used.now (whatOf c) index }
+    requires { Lies (length used.now) (what_of c) }
+    ensures { result ≡ cuts_piece used.now (what_of c) index }
 {
     match c {
         Content::Text { start, len } => {
@@ -26,7 +26,7 @@ fn cuts_piece(c: Content, used: &[u16], index: u32) -> bool
 
 fn falls_in_pair(h: Head, items: &[u64], used: &[u16], index: u64) -> bool
     requires { Readable h items.now used.now }
-    ensures { result ≡ splitsPair (visibleUnits used.now (list_of h items.now)) index }
+    ensures { result ≡ splits_pair (visible_units used.now (list_of h items.now)) index }
 {
     let mut k = h.items;
     let mut at = h.first;
@@ -50,7 +50,7 @@ fn falls_in_pair(h: Head, items: &[u64], used: &[u16], index: u64) -> bool
 // and a length add up exactly.
 pub fn cuts_pair(h: Head, items: &[u64], used: &[u16], index: u64) -> bool
     requires { Readable h items.now used.now }
-    ensures { result ≡ splitsPair (visibleUnits used.now (list_of h items.now)) index }
+    ensures { result ≡ splits_pair (visible_units used.now (list_of h items.now)) index }
 {
     if units::is_plain(used) {
         return false;

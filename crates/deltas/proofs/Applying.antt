@@ -6,48 +6,48 @@ use mathlib.Core.List.{List, ◌++◌}
 use lib.ListN.{length, take, length-append}
 use Rattle.rules.specs.Reading.{Op}
 use Rattle.rules.specs.Delta.{Given, delta}
-use Rattle.rules.specs.Calls.{applyDelta, laidOut, newUnits}
+use Rattle.rules.specs.Calls.{apply_delta, laid_out, new_units}
 use Rattle.layout.specs.declared.head.Head.{Head}
-use Rattle.layout.specs.Memory.{list_of, soundOf, Carried, keptAll, carry}
+use Rattle.layout.specs.Memory.{list_of, sound_of, Carried, kept_all, carry}
 use Rattle.layout.proofs.Soundness.{sound-parts}
 use Rattle.layout.proofs.Models.{used-length}
 use Rattle.changes.specs.Frame.{Left, granted}
 use Rattle.ops.specs.declared.delta.Delta.{Delta}
 use Rattle.ops.specs.Ops.{ops_of}
 use Rattle.carrying.specs.Turns.{laid, bringing, given}
-use Rattle.deltas.specs.Checks.{anyPast, manyOf}
-use Rattle.deltas.specs.Call.{shortScratch, carryDelta}
+use Rattle.deltas.specs.Checks.{any_past, many_of}
+use Rattle.deltas.specs.Call.{short_scratch, carry_delta}
 use Rattle.deltas.proofs.Laid.{laid-is, new-length}
 
-module _ (t : List ℕ) (d : Delta) (h : Head) (m u : List ℕ) (ok : soundOf h m u ≡ true) (parts : anyPast (length t) (given d) ≡ false) where
+module _ (t : List ℕ) (d : Delta) (h : Head) (m u : List ℕ) (ok : sound_of h m u ≡ true) (parts : any_past (length t) (given d) ≡ false) where
   used-is : length (take h.units u) ≡ h.units
   used-is = used-length h m u (sound-parts h m u ok)
 
-  pub delta-long : length (take h.units u ++ newUnits (ops_of t d)) ≡ h.units + bringing (given d)
-  delta-long = length-append (take h.units u) (newUnits (ops_of t d)) ∙ ap₂ (λ (a b : ℕ). a + b) used-is (new-length t d parts)
+  pub delta-long : length (take h.units u ++ new_units (ops_of t d)) ≡ h.units + bringing (given d)
+  delta-long = length-append (take h.units u) (new_units (ops_of t d)) ∙ ap₂ (λ (a b : ℕ). a + b) used-is (new-length t d parts)
 
   pub delta-granted : (used : ℕ) (x : Left) → x ≡ granted (delta (laid h.units (given d)) (list_of h m) h.items) used h m
-      → x ≡ granted (delta (laidOut (length (take h.units u)) (ops_of t d)) (list_of h m) h.items) used h m
+      → x ≡ granted (delta (laid_out (length (take h.units u)) (ops_of t d)) (list_of h m) h.items) used h m
   delta-granted used x e =
-      let same : laidOut (length (take h.units u)) (ops_of t d) ≡ laid h.units (given d) = ap (λ (n : ℕ). laidOut n (ops_of t d)) used-is ∙ laid-is t d h.units parts in
+      let same : laid_out (length (take h.units u)) (ops_of t d) ≡ laid h.units (given d) = ap (λ (n : ℕ). laid_out n (ops_of t d)) used-is ∙ laid-is t d h.units parts in
       e ∙ ap (λ (l : List (Op Given)). granted (delta l (list_of h m) h.items) used h m) (sym same)
 
 -- ---- the ways of the call
 module _ (sm su : ℕ) (t : List ℕ) (d : Delta) (h : Head) (m u : List ℕ) where
-  pub carried-unsound : soundOf h m u ≡ false → keptAll 9 h m u ≡ carryDelta sm su t d h m u
-  unfolding carryDelta
+  pub carried-unsound : sound_of h m u ≡ false → kept_all 9 h m u ≡ carry_delta sm su t d h m u
+  unfolding carry_delta
   carried-unsound e = rw e
 
-  module _ (ok : soundOf h m u ≡ true) where
-    pub carried-many : manyOf (length t) d ≡ true → keptAll 7 h m u ≡ carryDelta sm su t d h m u
-    unfolding carryDelta
+  module _ (ok : sound_of h m u ≡ true) where
+    pub carried-many : many_of (length t) d ≡ true → kept_all 7 h m u ≡ carry_delta sm su t d h m u
+    unfolding carry_delta
     carried-many e = rw (ok, e)
 
-    module _ (read : manyOf (length t) d ≡ false) where
-      pub carried-short : shortScratch sm su ≡ true → keptAll 8 h m u ≡ carryDelta sm su t d h m u
-      unfolding carryDelta
+    module _ (read : many_of (length t) d ≡ false) where
+      pub carried-short : short_scratch sm su ≡ true → kept_all 8 h m u ≡ carry_delta sm su t d h m u
+      unfolding carry_delta
       carried-short e = rw (ok, read, e)
 
-      pub carried-ruled : shortScratch sm su ≡ false → (x : Carried) → x ≡ carry (applyDelta (ops_of t d)) h m u → x ≡ carryDelta sm su t d h m u
-      unfolding carryDelta
+      pub carried-ruled : short_scratch sm su ≡ false → (x : Carried) → x ≡ carry (apply_delta (ops_of t d)) h m u → x ≡ carry_delta sm su t d h m u
+      unfolding carry_delta
       carried-ruled e x is = rw (ok, read, e) is

@@ -10,17 +10,17 @@ use borrow.Author.Tests.{ltb-false}
 use Rattle.sets.specs.Sets.{Set}
 use Rattle.attrs.specs.Packed.{says}
 use Rattle.rules.specs.Reading as rules
-use Rattle.rules.specs.Delta.{Given, newText, newEmbed}
-use Rattle.rules.specs.Calls.{Body, laidOut, newUnits}
+use Rattle.rules.specs.Delta.{Given, new_text, new_embed}
+use Rattle.rules.specs.Calls.{Body, laid_out, new_units}
 use Rattle.ops.specs.declared.delta.Inserted.TheVariants.{Text, Embed}
 use Rattle.ops.specs.declared.delta.Op.{Op}
 use Rattle.ops.specs.declared.delta.Op.TheVariants.{Insert, Delete, Retain}
 use Rattle.ops.specs.declared.delta.DeltaOp.{DeltaOp}
 use Rattle.ops.specs.declared.delta.Delta.{Delta}
-use Rattle.ops.specs.Ops.{opFor, op_of, ops_of}
-use Rattle.carrying.specs.Turns.{brings, laidFor, laid, bringing, given}
-use Rattle.deltas.specs.Checks.{pastEnd, anyPast}
-use Rattle.deltas.specs.Texts.{unitsOf}
+use Rattle.ops.specs.Ops.{op_for, op_of, ops_of}
+use Rattle.carrying.specs.Turns.{brings, laid_for, laid, bringing, given}
+use Rattle.deltas.specs.Checks.{past_end, any_past}
+use Rattle.deltas.specs.Texts.{units_of}
 use Rattle.deltas.proofs.Refusals.{left_false}
 
 module _ (t : List ℕ) where
@@ -28,46 +28,46 @@ module _ (t : List ℕ) where
   part_length s n h = length-take-le n (drop s t) (omega (arith, length-drop s t))
 
   -- ---- one operation
-  laid_one : (o : Op) (a : Set) (os : List (rules.Op Body)) (m : ℕ) → pastEnd (length t) o ≡ false → laidOut m (opFor t a o ∷ os) ≡ laidFor m a o ∷ laidOut (m + brings o) os
-  laid_one (Insert (Text s n)) a os m e = ap (λ (k : ℕ). rules.insert (newText m k) a ∷ laidOut (m + k) os) (part_length s n (ltb-false (length t) (s + n) e))
-  laid_one (Insert (Embed x)) a os m e = let z : m ≡ m + 0 = omega arith in ap (λ (k : ℕ). rules.insert (newEmbed x) a ∷ laidOut k os) z
-  laid_one (Delete n) a os m e = let z : m ≡ m + 0 = omega arith in ap (λ (k : ℕ). rules.delete n ∷ laidOut k os) z
-  laid_one (Retain n) a os m e = let z : m ≡ m + 0 = omega arith in ap (λ (k : ℕ). rules.retain n a ∷ laidOut k os) z
+  laid_one : (o : Op) (a : Set) (os : List (rules.Op Body)) (m : ℕ) → past_end (length t) o ≡ false → laid_out m (op_for t a o ∷ os) ≡ laid_for m a o ∷ laid_out (m + brings o) os
+  laid_one (Insert (Text s n)) a os m e = ap (λ (k : ℕ). rules.insert (new_text m k) a ∷ laid_out (m + k) os) (part_length s n (ltb-false (length t) (s + n) e))
+  laid_one (Insert (Embed x)) a os m e = let z : m ≡ m + 0 = omega arith in ap (λ (k : ℕ). rules.insert (new_embed x) a ∷ laid_out k os) z
+  laid_one (Delete n) a os m e = let z : m ≡ m + 0 = omega arith in ap (λ (k : ℕ). rules.delete n ∷ laid_out k os) z
+  laid_one (Retain n) a os m e = let z : m ≡ m + 0 = omega arith in ap (λ (k : ℕ). rules.retain n a ∷ laid_out k os) z
 
   -- as many units as it brings ..
-  pub units-long : (o : Op) → pastEnd (length t) o ≡ false → length (unitsOf t o) ≡ brings o
+  pub units-long : (o : Op) → past_end (length t) o ≡ false → length (units_of t o) ≡ brings o
   units-long (Insert (Text s n)) e = part_length s n (ltb-false (length t) (s + n) e)
   units-long (Insert (Embed x)) e = refl
   units-long (Delete n) e = refl
   units-long (Retain n) e = refl
 
   -- .. in front of those of the operations behind it
-  pub new-cons : (o : Op) (a : Set) (os : List (rules.Op Body)) → newUnits (opFor t a o ∷ os) ≡ unitsOf t o ++ newUnits os
+  pub new-cons : (o : Op) (a : Set) (os : List (rules.Op Body)) → new_units (op_for t a o ∷ os) ≡ units_of t o ++ new_units os
   new-cons (Insert (Text s n)) a os = refl
   new-cons (Insert (Embed x)) a os = refl
   new-cons (Delete n) a os = refl
   new-cons (Retain n) a os = refl
 
   -- ---- all of them
-  laid-all : (ds : List DeltaOp) (m : ℕ) → anyPast (length t) ds ≡ false → laidOut m (map (op_of t) ds) ≡ laid m ds
-  unfolding anyPast laid op_of
+  laid-all : (ds : List DeltaOp) (m : ℕ) → any_past (length t) ds ≡ false → laid_out m (map (op_of t) ds) ≡ laid m ds
+  unfolding any_past laid op_of
   laid-all [] m e = refl
   laid-all (d ∷ ds) m e =
-      let b = left_false (pastEnd (length t) d.op) (anyPast (length t) ds) e in
-      laid_one d.op (says d.attrs) (map (op_of t) ds) m b.0 ∙ ap (λ (l : List (rules.Op Given)). laidFor m (says d.attrs) d.op ∷ l) (laid-all ds (m + brings d.op) b.1)
+      let b = left_false (past_end (length t) d.op) (any_past (length t) ds) e in
+      laid_one d.op (says d.attrs) (map (op_of t) ds) m b.0 ∙ ap (λ (l : List (rules.Op Given)). laid_for m (says d.attrs) d.op ∷ l) (laid-all ds (m + brings d.op) b.1)
 
-  new-all : (ds : List DeltaOp) → anyPast (length t) ds ≡ false → length (newUnits (map (op_of t) ds)) ≡ bringing ds
-  unfolding anyPast bringing op_of
+  new-all : (ds : List DeltaOp) → any_past (length t) ds ≡ false → length (new_units (map (op_of t) ds)) ≡ bringing ds
+  unfolding any_past bringing op_of
   new-all [] e = refl
   new-all (d ∷ ds) e =
-      let b = left_false (pastEnd (length t) d.op) (anyPast (length t) ds) e in
-      ap length (new-cons d.op (says d.attrs) (map (op_of t) ds)) ∙ length-append (unitsOf t d.op) _ ∙ ap₂ (λ (a b : ℕ). a + b) (units-long d.op b.0) (new-all ds b.1)
+      let b = left_false (past_end (length t) d.op) (any_past (length t) ds) e in
+      ap length (new-cons d.op (says d.attrs) (map (op_of t) ds)) ∙ length-append (units_of t d.op) _ ∙ ap₂ (λ (a b : ℕ). a + b) (units-long d.op b.0) (new-all ds b.1)
 
   -- ---- a delta's
-  pub laid-is : (d : Delta) (m : ℕ) → anyPast (length t) (given d) ≡ false → laidOut m (ops_of t d) ≡ laid m (given d)
+  pub laid-is : (d : Delta) (m : ℕ) → any_past (length t) (given d) ≡ false → laid_out m (ops_of t d) ≡ laid m (given d)
   unfolding ops_of
   laid-is d m e = laid-all (given d) m e
 
-  pub new-length : (d : Delta) → anyPast (length t) (given d) ≡ false → length (newUnits (ops_of t d)) ≡ bringing (given d)
+  pub new-length : (d : Delta) → any_past (length t) (given d) ≡ false → length (new_units (ops_of t d)) ≡ bringing (given d)
   unfolding ops_of
   new-length d e = new-all (given d) e

@@ -6,11 +6,11 @@ use Rattle.ops.specs.declared.delta.Op.{Op}
 use Rattle.ops.specs.declared.delta.Op.TheVariants.{Insert, Delete, Retain}
 
 -- The units of an operation's text: a part of those that were lent.
-abbrev pub partUnits : List ℕ → Inserted → List ℕ
-partUnits t (Text s n) = take n (drop s t)
-partUnits t (Embed e) = []
+abbrev pub part_units : List ℕ → Inserted → List ℕ
+part_units t (Text s n) = take n (drop s t)
+part_units t (Embed e) = []
 
-abbrev pub unitsOf : List ℕ → Op → List ℕ
-unitsOf t (Insert i) = partUnits t i
-unitsOf t (Delete n) = []
-unitsOf t (Retain n) = []
+abbrev pub units_of : List ℕ → Op → List ℕ
+units_of t (Insert i) = part_units t i
+units_of t (Delete n) = []
+units_of t (Retain n) = []

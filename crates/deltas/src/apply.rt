@@ -1,13 +1,13 @@
 // A delta carried out on a sheet, as a whole or not at all.
 ghost use Rattle.std.specs.Prelude.{◌≡◌, true, false, length};
 ghost use Rattle.rules.specs.Reading.{visible};
-ghost use Rattle.rules.specs.Calls.{applyDelta, check};
+ghost use Rattle.rules.specs.Calls.{apply_delta, check};
 ghost use Rattle.rules.specs.Rulings.{seen};
-ghost use Rattle.layout.specs.Memory.{list_of, soundOf, modelOf, carry};
+ghost use Rattle.layout.specs.Memory.{list_of, sound_of, model_of, carry};
 ghost use Rattle.ops.specs.Ops.{ops_of};
 ghost use Rattle.changes.specs.Frame.{leaving};
-ghost use Rattle.deltas.specs.Checks.{manyOf};
-ghost use Rattle.deltas.specs.Call.{shortScratch, carryDelta};
+ghost use Rattle.deltas.specs.Checks.{many_of};
+ghost use Rattle.deltas.specs.Call.{short_scratch, carry_delta};
 
 use crate::append::append_all;
 use crate::checks::{many, total};
@@ -19,7 +19,7 @@ use ops::delta::Delta;
 use soundness::measure;
 
 fn short_scratch(items: &[u64], units: &[u16]) -> bool
-    ensures { result ≡ shortScratch (length items.now) (length units.now) }
+    ensures { result ≡ short_scratch (length items.now) (length units.now) }
 {
     if items.len() < Head::ITEMS as usize {
         return true;
@@ -29,8 +29,8 @@ fn short_scratch(items: &[u64], units: &[u16]) -> bool
 
 // `all`, here and below, is the visible length.
 fn delta_fault(h: Head, items: &[u64], units: &[u16], all: u32, delta: Delta, chunk: &[u16]) -> u32
-    requires { (soundOf h items.now units.now ≡ true) × (all ≡ visible (list_of h items.now)) × (manyOf (length chunk.now) delta ≡ false) }
-    ensures { result ≡ check (seen (modelOf h items.now units.now)) 0 (ops_of chunk.now delta) }
+    requires { (sound_of h items.now units.now ≡ true) × (all ≡ visible (list_of h items.now)) × (many_of (length chunk.now) delta ≡ false) }
+    ensures { result ≡ check (seen (model_of h items.now units.now)) 0 (ops_of chunk.now delta) }
 {
     let used = h.units as usize;
     fault(h, items, &units[..used], all, delta, chunk)
@@ -45,8 +45,8 @@ fn carry_read(
     delta: Delta,
     chunk: &[u16],
 ) -> Answer
-    requires { (soundOf h items.old units.old ≡ true) × (all ≡ visible (list_of h items.old)) × (manyOf (length chunk.now) delta ≡ false) }
-    ensures { leaving result items.new units.new ≡ carry (applyDelta (ops_of chunk.now delta)) h items.old units.old }
+    requires { (sound_of h items.old units.old ≡ true) × (all ≡ visible (list_of h items.old)) × (many_of (length chunk.now) delta ≡ false) }
+    ensures { leaving result items.new units.new ≡ carry (apply_delta (ops_of chunk.now delta)) h items.old units.old }
 {
     let wrong = delta_fault(h, items, units, all, delta, chunk);
     if wrong != 0 {
@@ -78,7 +78,7 @@ pub fn apply_delta(
     scratch_items: &[u64],
     scratch_units: &[u16],
 ) -> Answer
-    ensures { leaving result items.new units.new ≡ carryDelta (length scratch_items.now) (length scratch_units.now) chunk.now delta h items.old units.old }
+    ensures { leaving result items.new units.new ≡ carry_delta (length scratch_items.now) (length scratch_units.now) chunk.now delta h items.old units.old }
 {
     let m = measure(h, items, units);
     if !m.sound {

@@ -1,14 +1,14 @@
 // What only reads a delta: whether it can be read at all, and how many units it brings.
 ghost use Rattle.std.specs.Prelude.{◌≡◌, ◌≤◌};
 ghost use Rattle.carrying.specs.Turns.{given, bringing};
-ghost use Rattle.deltas.specs.Checks.{pastEnd, manyOf};
+ghost use Rattle.deltas.specs.Checks.{past_end, many_of};
 
 use carrying::turns::brought;
 use ops::delta::{Delta, Inserted, Op};
 
 // In 64 bits, since a start and a length can pass 32.
 fn past_end(n: usize, op: Op) -> bool
-    ensures { result ≡ pastEnd n op }
+    ensures { result ≡ past_end n op }
 {
     match op {
         Op::Insert(part) => match part {
@@ -22,7 +22,7 @@ fn past_end(n: usize, op: Op) -> bool
 
 // `n` is how many units are lent.
 pub(crate) fn many(n: usize, delta: Delta) -> bool
-    ensures { result ≡ manyOf n delta }
+    ensures { result ≡ many_of n delta }
 {
     if delta.count > Delta::OPS {
         return true;

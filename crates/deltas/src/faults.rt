@@ -1,13 +1,13 @@
 // The refusals 3, 2 and 1 of a delta's operations, decided on the old visible text: what is inserted stands left of the place.
 ghost use Rattle.std.specs.Prelude.{◌≡◌, false, cond, ◌+◌, ◌≤◌, min, length, take, drop};
-ghost use Rattle.units.specs.Surrogates.{paired, splitsPair};
-ghost use Rattle.rules.specs.Calls.{visibleUnits, tooLong, check};
+ghost use Rattle.units.specs.Surrogates.{paired, splits_pair};
+ghost use Rattle.rules.specs.Calls.{visible_units, too_long, check};
 ghost use Rattle.layout.specs.Memory.{list_of};
 ghost use Rattle.cuts.specs.Cuts.{Readable};
 ghost use Rattle.ops.specs.Ops.{ops_of};
 ghost use Rattle.carrying.specs.Turns.{given};
-ghost use Rattle.deltas.specs.Checks.{pastPart, pastEnd, anyPast};
-ghost use Rattle.deltas.specs.Faults.{partFault, faultFor, placeAfter};
+ghost use Rattle.deltas.specs.Checks.{past_part, past_end, any_past};
+ghost use Rattle.deltas.specs.Faults.{part_fault, fault_for, place_after};
 
 use cuts::cuts_pair;
 use layout::head::Head;
@@ -26,8 +26,8 @@ fn text_fault(chunk: &[u16], start: u32, len: u32) -> u32
 }
 
 fn part_fault(chunk: &[u16], part: Inserted) -> u32
-    requires { pastPart (length chunk.now) part ≡ false }
-    ensures { result ≡ partFault chunk.now part }
+    requires { past_part (length chunk.now) part ≡ false }
+    ensures { result ≡ part_fault chunk.now part }
 {
     match part {
         Inserted::Text { start, len } => text_fault(chunk, start, len),
@@ -37,7 +37,7 @@ fn part_fault(chunk: &[u16], part: Inserted) -> u32
 
 fn retain_fault(h: Head, items: &[u64], used: &[u16], c: u32, n: u32) -> u32
     requires { Readable h items.now used.now }
-    ensures { result ≡ cond (splitsPair (visibleUnits used.now (list_of h items.now)) (c + n)) 2 0 }
+    ensures { result ≡ cond (splits_pair (visible_units used.now (list_of h items.now)) (c + n)) 2 0 }
 {
     if cuts_pair(h, items, used, c as u64 + n as u64) {
         return 2;
@@ -47,8 +47,8 @@ fn retain_fault(h: Head, items: &[u64], used: &[u16], c: u32, n: u32) -> u32
 
 // `len` is how many units are visible.
 fn delete_fault(h: Head, items: &[u64], used: &[u16], len: u32, c: u32, n: u32) -> u32
-    requires { Readable h items.now used.now × (len ≡ length (visibleUnits used.now (list_of h items.now))) × (c ≤ len) }
-    ensures { result ≡ cond (splitsPair (visibleUnits used.now (list_of h items.now)) (c + n)) 2 (cond (tooLong (visibleUnits used.now (list_of h items.now)) c n) 1 0) }
+    requires { Readable h items.now used.now × (len ≡ length (visible_units used.now (list_of h items.now))) × (c ≤ len) }
+    ensures { result ≡ cond (splits_pair (visible_units used.now (list_of h items.now)) (c + n)) 2 (cond (too_long (visible_units used.now (list_of h items.now)) c n) 1 0) }
 {
     if cuts_pair(h, items, used, c as u64 + n as u64) {
         return 2;
@@ -60,8 +60,8 @@ fn delete_fault(h: Head, items: &[u64], used: &[u16], len: u32, c: u32, n: u32) 
 }
 
 fn op_fault(h: Head, items: &[u64], used: &[u16], len: u32, c: u32, op: Op, chunk: &[u16]) -> u32
-    requires { Readable h items.now used.now × (len ≡ length (visibleUnits used.now (list_of h items.now))) × (c ≤ len) × (pastEnd (length chunk.now) op ≡ false) }
-    ensures { result ≡ faultFor (visibleUnits used.now (list_of h items.now)) c chunk.now op }
+    requires { Readable h items.now used.now × (len ≡ length (visible_units used.now (list_of h items.now))) × (c ≤ len) × (past_end (length chunk.now) op ≡ false) }
+    ensures { result ≡ fault_for (visible_units used.now (list_of h items.now)) c chunk.now op }
 {
     match op {
         Op::Insert(part) => part_fault(chunk, part),
@@ -82,7 +82,7 @@ fn moved(len: u32, c: u32, n: u32) -> u32
 
 fn place_after(len: u32, c: u32, op: Op) -> u32
     requires { c ≤ len }
-    ensures { result ≡ placeAfter len c op }
+    ensures { result ≡ place_after len c op }
 {
     match op {
         Op::Insert(_) => c,
@@ -100,8 +100,8 @@ pub(crate) fn fault(
     delta: Delta,
     chunk: &[u16],
 ) -> u32
-    requires { Readable h items.now used.now × (len ≡ length (visibleUnits used.now (list_of h items.now))) × (delta.count ≤ 256) × (anyPast (length chunk.now) (given delta) ≡ false) }
-    ensures { result ≡ check (visibleUnits used.now (list_of h items.now)) 0 (ops_of chunk.now delta) }
+    requires { Readable h items.now used.now × (len ≡ length (visible_units used.now (list_of h items.now))) × (delta.count ≤ 256) × (any_past (length chunk.now) (given delta) ≡ false) }
+    ensures { result ≡ check (visible_units used.now (list_of h items.now)) 0 (ops_of chunk.now delta) }
 {
     let count = delta.count as usize;
     let mut c = 0;

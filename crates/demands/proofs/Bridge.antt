@@ -7,20 +7,20 @@ use mathlib.Core.List.{List, [], ◌∷◌, map}
 use lib.Dec.{eqb}
 use borrow.Author.Tests.{eqb-true, eqb-false}
 use Rattle.rules.specs.Reading.{Op}
-use Rattle.rules.specs.Calls.{Body, Call, applyDelta, beginNow, call}
+use Rattle.rules.specs.Calls.{Body, Call, apply_delta, begin_now, call}
 use Rattle.rules.specs.Rulings.{FineCall}
-use Rattle.rules.specs.PieceParts.{after as ruledAfter, refusals}
+use Rattle.rules.specs.PieceParts.{after as ruled_after, refusals}
 use Rattle.laws.proofs.Calls.{call-refused}
 use Rattle.laws.proofs.Transaction.{FineCalls}
 use Rattle.layout.specs.declared.head.Head.{Head}
 use Rattle.items.specs.declared.Answer.{Answer}
 use Rattle.items.specs.Calls.{answer_of}
-use Rattle.layout.specs.Memory.{soundOf, Carried, keptAll, carry}
+use Rattle.layout.specs.Memory.{sound_of, Carried, kept_all, carry}
 use Rattle.layout.proofs.Soundness.{sound-parts}
 use Rattle.layout.proofs.Models.{model-sound, sound-units}
 use Rattle.items.proofs.Carries.{carry-broken, carry-refused, carry-done}
 use Rattle.sheet.proofs.Theorems.{refusal_is, leaves-sound, leaves-model}
-use Rattle.demands.specs.Steps.{State, sound, model, Step, does, turned, answered, left, after, numbers, begun, calls_of, deltaStep}
+use Rattle.demands.specs.Steps.{State, sound, model, Step, does, turned, answered, left, after, numbers, begun, calls_of, delta_step}
 
 -- ---- one step
 -- One call, refused or not.
@@ -38,40 +38,40 @@ call-model c fine s ok = go (eqb (call c (model s)).refusal 0) refl
 pub turned-keeps : (n : ℕ) (s : State) → left (answered (turned n) s) ≡ s
 turned-keeps n s = go (sound s)
   where
-    go : (b : Bool) → left (cond b (keptAll n s.head s.words s.units) (keptAll 9 s.head s.words s.units)) ≡ s
+    go : (b : Bool) → left (cond b (kept_all n s.head s.words s.units) (kept_all 9 s.head s.words s.units)) ≡ s
     go true = refl
     go false = refl
 
 -- What `begin` promises of its answer and of the words, with the units that it does not touch, is `begun`.
-pub begin-is : (s : State) (r : Answer) (m : List ℕ) → r ≡ answer_of (carry beginNow s.head s.words s.units) → m ≡ (carry beginNow s.head s.words s.units).words
+pub begin-is : (s : State) (r : Answer) (m : List ℕ) → r ≡ answer_of (carry begin_now s.head s.words s.units) → m ≡ (carry begin_now s.head s.words s.units).words
     → record { head = r.head; words = m; units = s.units } ≡ begun s
 begin-is s r m a w = ap₂ (λ (x : Answer) (y : List ℕ). record { head = x.head; words = y; units = s.units }) a w ∙ ap (λ (x : List ℕ). record { head = (begun s).head; words = (begun s).words; units = x }) (go (sound s) refl)
   where
     go : (b : Bool) → sound s ≡ b → s.units ≡ (begun s).units
     go true e =
         sym (sound-units s.head s.words s.units (sound-parts s.head s.words s.units e))
-        ∙ sym (ap (λ (x : Carried). x.units) (carry-done (call beginNow) s.head s.words s.units e refl))
-    go false e = sym (ap (λ (x : Carried). x.units) (carry-broken (call beginNow) s.head s.words s.units e))
+        ∙ sym (ap (λ (x : Carried). x.units) (carry-done (call begin_now) s.head s.words s.units e refl))
+    go false e = sym (ap (λ (x : Carried). x.units) (carry-broken (call begin_now) s.head s.words s.units e))
 
 -- An unsound sheet is refused with 9, and all is kept.
-pub broken-step : (t : Step) (s : State) → sound s ≡ false → answered t s ≡ keptAll 9 s.head s.words s.units
+pub broken-step : (t : Step) (s : State) → sound s ≡ false → answered t s ≡ kept_all 9 s.head s.words s.units
 broken-step (does c) s e = carry-broken (call c) s.head s.words s.units e
 broken-step (turned n) s e = rw e
 
 -- A delta in memory is a step.
 pub delta-step : (many short : Bool) (ops : List (Op Body)) (h : Head) (m u : List ℕ)
-    → cond (soundOf h m u) (cond many (keptAll 7 h m u) (cond short (keptAll 8 h m u) (carry (applyDelta ops) h m u))) (keptAll 9 h m u)
-    ≡ answered (deltaStep many short ops) (record { head = h; words = m; units = u })
-delta-step many short ops h m u = go (soundOf h m u) refl many short
+    → cond (sound_of h m u) (cond many (kept_all 7 h m u) (cond short (kept_all 8 h m u) (carry (apply_delta ops) h m u))) (kept_all 9 h m u)
+    ≡ answered (delta_step many short ops) (record { head = h; words = m; units = u })
+delta-step many short ops h m u = go (sound_of h m u) refl many short
   where
-    go : (b : Bool) → soundOf h m u ≡ b → (many short : Bool)
-        → cond b (cond many (keptAll 7 h m u) (cond short (keptAll 8 h m u) (carry (applyDelta ops) h m u))) (keptAll 9 h m u)
-        ≡ answered (deltaStep many short ops) (record { head = h; words = m; units = u })
+    go : (b : Bool) → sound_of h m u ≡ b → (many short : Bool)
+        → cond b (cond many (kept_all 7 h m u) (cond short (kept_all 8 h m u) (carry (apply_delta ops) h m u))) (kept_all 9 h m u)
+        ≡ answered (delta_step many short ops) (record { head = h; words = m; units = u })
     go true e true true = rw e
     go true e true false = rw e
     go true e false true = rw e
     go true e false false = refl
-    go false e many short = sym (broken-step (deltaStep many short ops) (record { head = h; words = m; units = u }) e)
+    go false e many short = sym (broken-step (delta_step many short ops) (record { head = h; words = m; units = u }) e)
 
 -- ---- any steps
 -- The sheet stays sound ..
@@ -81,10 +81,10 @@ after-sound (does c ∷ ts) d s ok = after-sound ts d.1 (left (answered (does c)
 after-sound (turned n ∷ ts) d s ok = after-sound ts d (left (answered (turned n) s)) (ap sound (turned-keeps n s) ∙ ok)
 
 -- .. and is what the rules make of it.
-pub after-model : (ts : List Step) → FineCalls (calls_of ts) → (s : State) → sound s ≡ true → model (after ts s) ≡ ruledAfter (calls_of ts) (model s)
+pub after-model : (ts : List Step) → FineCalls (calls_of ts) → (s : State) → sound s ≡ true → model (after ts s) ≡ ruled_after (calls_of ts) (model s)
 after-model [] d s ok = refl
 after-model (does c ∷ ts) d s ok =
-    after-model ts d.1 (left (answered (does c) s)) (leaves-sound c s.head s.words s.units ok d.0) ∙ ap (ruledAfter (calls_of ts)) (call-model c d.0 s ok)
+    after-model ts d.1 (left (answered (does c) s)) (leaves-sound c s.head s.words s.units ok d.0) ∙ ap (ruled_after (calls_of ts)) (call-model c d.0 s ok)
 after-model (turned n ∷ ts) d s ok = ap (λ (x : State). model (after ts x)) (turned-keeps n s) ∙ after-model ts d s ok
 
 -- So are the numbers that calls answer.

@@ -6,28 +6,28 @@ use mathlib.Core.Bool.{Bool, true, false, cond, not, true≢false}
 use mathlib.Core.List.{List, [], ◌∷◌, ◌++◌, map, append_assoc}
 use lib.ListN.{length, take, drop, length-append, length-map, drop_of_length-le}
 use lib.Seq.{take-append_seam, drop_at}
-use Rattle.sets.specs.Sets.{Slot, Set, isAbsent, keys, those, present, asSet}
+use Rattle.sets.specs.Sets.{Slot, Set, is_absent, keys, those, present, as_set}
 use Rattle.attrs.specs.Packed.{says, packed}
-use Rattle.attrs.proofs.Force.{says-in, env-in}
+use Rattle.attrs.proofs.Force.{says_in, env_in}
 use Rattle.rules.specs.Sheet.{Item}
-use Rattle.rules.specs.Reading.{live, Glyph, Cell, paint, cells, seenGlyphs}
-use Rattle.rules.specs.Runs.{Chunk, words, object, Run as Stretch, runs, isText, glyphsOf, joined}
+use Rattle.rules.specs.Reading.{live, Glyph, Cell, paint, cells, seen_glyphs}
+use Rattle.rules.specs.Runs.{Chunk, words, object, Run as Stretch, runs, is_text, glyphs_of, joined}
 use Rattle.laws.proofs.Lists.{In, here, there, map-append}
-use Rattle.laws.proofs.Cuts.{glyphsIn, in_cells, in-paint}
-use Rattle.laws.proofs.Runs.{runCells, runs-cells, joined-cells, Maximal, none_left, one_left, apart, joined-maximal, apart-differ}
+use Rattle.laws.proofs.Cuts.{glyphs_in, in_cells, in-paint}
+use Rattle.laws.proofs.Runs.{run_cells, runs-cells, joined-cells, Maximal, none_left, one_left, apart, joined_maximal, apart_differ}
 use Rattle.cursors.specs.declared.run.Run.{Run}
 use Rattle.runs.specs.declared.calls.Count.{Count}
-use Rattle.cursors.specs.Records.{len_of, recordOf, recordsOf, runsBy}
-use Rattle.runs.specs.Answers.{recordsIn, answer, counted, Said, first, run_at}
+use Rattle.cursors.specs.Records.{len_of, record_of, records_of, runs_by}
+use Rattle.runs.specs.Answers.{records_in, answer, counted, Said, first, run_at}
 use Rattle.demands.specs.Steps.{State, sound, model}
-use Rattle.demands.specs.Written.{spelled, spelledCell}
-use Rattle.demands.specs.Listing.{runsRead, allRuns, runGlyphs, runsShow, visibleOf, Apart, Counted, Listed}
-use Rattle.demands.proofs.Pages.{key_in, key_below, paint-spelled}
+use Rattle.demands.specs.Written.{spelled, spelled_cell}
+use Rattle.demands.specs.Listing.{runs_read, all_runs, run_glyphs, runs_show, visible_of, Apart, Counted, Listed}
+use Rattle.demands.proofs.Pages.{key_in_lem, key_below, paint-spelled}
 
 -- ---- what is handed out
 module _ (s : State) (ok : sound s ≡ true) (b : Bool) where
   abbrev rs : List Run
-  rs = recordsIn s.head s.words b
+  rs = records_in s.head s.words b
 
   counted_is : counted s.head s.words s.units b ≡ answer 0 (length rs)
   unfolding counted
@@ -38,28 +38,28 @@ module _ (s : State) (ok : sound s ≡ true) (b : Bool) where
   at-is n = rw ok
 
   -- run by run
-  read-on : (xs pre : List Run) → pre ++ xs ≡ rs → runsRead s b (length pre) (length xs) ≡ xs
+  read-on : (xs pre : List Run) → pre ++ xs ≡ rs → runs_read s b (length pre) (length xs) ≡ xs
   read-on [] pre e = refl
   read-on (x ∷ xs) pre e =
       let d : drop (length pre) rs ≡ x ∷ xs = ap (drop (length pre)) (sym e) ∙ drop_at pre (x ∷ xs) (length pre) refl in
       let n : length (pre ++ (x ∷ [])) ≡ suc (length pre) = omega (arith, length-append pre (x ∷ [])) in
       ap₂ (λ (y : Run) (ys : List Run). y ∷ ys)
       (ap (λ (z : Said). z.run) (at-is (length pre) ∙ ap first d))
-      (sym (ap (λ (k : ℕ). runsRead s b k (length xs)) n) ∙ read-on xs (pre ++ (x ∷ [])) (append_assoc pre (x ∷ []) xs ∙ e))
+      (sym (ap (λ (k : ℕ). runs_read s b k (length xs)) n) ∙ read-on xs (pre ++ (x ∷ [])) (append_assoc pre (x ∷ []) xs ∙ e))
 
-  pub all_read : allRuns s b ≡ rs
-  all_read = ap (runsRead s b 0) (ap (λ (z : Count). z.count) counted_is) ∙ read-on rs [] refl
+  pub all_read : all_runs s b ≡ rs
+  all_read = ap (runs_read s b 0) (ap (λ (z : Count). z.count) counted_is) ∙ read-on rs [] refl
 
 -- ---- what the records show
-abbrev pub allGlyphs : List Stretch → List Glyph
-allGlyphs [] = []
-allGlyphs (r ∷ rs) = glyphsOf r.chunk ++ allGlyphs rs
+abbrev pub all_glyphs : List Stretch → List Glyph
+all_glyphs [] = []
+all_glyphs (r ∷ rs) = glyphs_of r.chunk ++ all_glyphs rs
 
-cells-glyphs : (j : ℕ) (rs : List Stretch) → glyphsIn (runCells j rs) ≡ allGlyphs rs
+cells-glyphs : (j : ℕ) (rs : List Stretch) → glyphs_in (run_cells j rs) ≡ all_glyphs rs
 cells-glyphs j [] = refl
-cells-glyphs j (r ∷ rs) = in-paint (r.force j) (glyphsOf r.chunk) (runCells j rs) ∙ ap (λ (x : List Glyph). glyphsOf r.chunk ++ x) (cells-glyphs j rs)
+cells-glyphs j (r ∷ rs) = in-paint (r.force j) (glyphs_of r.chunk) (run_cells j rs) ∙ ap (λ (x : List Glyph). glyphs_of r.chunk ++ x) (cells-glyphs j rs)
 
-len-glyphs : (c : Chunk) → length (glyphsOf c) ≡ len_of c
+len-glyphs : (c : Chunk) → length (glyphs_of c) ≡ len_of c
 len-glyphs (words gs) = refl
 len-glyphs (object x) = refl
 
@@ -67,48 +67,48 @@ module _ (u : List ℕ) where
   -- Each record stands for the units of its run.
   abbrev pub Stand : List Glyph → ℕ → List Stretch → Type 0
   Stand gs n [] = Unit {0}
-  Stand gs n (r ∷ rs) = (runGlyphs gs (recordOf n r) ≡ map (spelled u) (glyphsOf r.chunk)) × Stand gs (n + len_of r.chunk) rs
+  Stand gs n (r ∷ rs) = (run_glyphs gs (record_of n r) ≡ map (spelled u) (glyphs_of r.chunk)) × Stand gs (n + len_of r.chunk) rs
 
-  one-stands : (r : Stretch) (pre rest : List Glyph) (n : ℕ) → length pre ≡ n → runGlyphs (pre ++ (map (spelled u) (glyphsOf r.chunk) ++ rest)) (recordOf n r) ≡ map (spelled u) (glyphsOf r.chunk)
+  one-stands : (r : Stretch) (pre rest : List Glyph) (n : ℕ) → length pre ≡ n → run_glyphs (pre ++ (map (spelled u) (glyphs_of r.chunk) ++ rest)) (record_of n r) ≡ map (spelled u) (glyphs_of r.chunk)
   one-stands r pre rest n e = go r.chunk
     where
-      go : (c : Chunk) → runGlyphs (pre ++ (map (spelled u) (glyphsOf c) ++ rest)) (recordOf n (record { chunk = c; force = r.force })) ≡ map (spelled u) (glyphsOf c)
+      go : (c : Chunk) → run_glyphs (pre ++ (map (spelled u) (glyphs_of c) ++ rest)) (record_of n (record { chunk = c; force = r.force })) ≡ map (spelled u) (glyphs_of c)
       go (words gs) =
           ap (take (length gs)) (drop_at pre (map (spelled u) gs ++ rest) n e)
           ∙ ap (λ (k : ℕ). take k (map (spelled u) gs ++ rest)) (sym (length-map gs (spelled u))) ∙ take-append_seam (map (spelled u) gs) rest
       go (object x) = refl
 
-  all-stand : (rs : List Stretch) (pre : List Glyph) (n : ℕ) → length pre ≡ n → Stand (pre ++ map (spelled u) (allGlyphs rs)) n rs
+  all-stand : (rs : List Stretch) (pre : List Glyph) (n : ℕ) → length pre ≡ n → Stand (pre ++ map (spelled u) (all_glyphs rs)) n rs
   all-stand [] pre n e = tt
   all-stand (r ∷ rs) pre n e =
       let f = spelled u in
-      let gs = glyphsOf r.chunk in
-      let rest = map f (allGlyphs rs) in
-      let a : pre ++ map f (gs ++ allGlyphs rs) ≡ pre ++ (map f gs ++ rest) = ap (λ (x : List Glyph). pre ++ x) (map-append f gs (allGlyphs rs)) in
+      let gs = glyphs_of r.chunk in
+      let rest = map f (all_glyphs rs) in
+      let a : pre ++ map f (gs ++ all_glyphs rs) ≡ pre ++ (map f gs ++ rest) = ap (λ (x : List Glyph). pre ++ x) (map-append f gs (all_glyphs rs)) in
       let m : length (pre ++ map f gs) ≡ n + len_of r.chunk = omega (arith, length-append pre (map f gs), length-map gs f, len-glyphs r.chunk) in (
-        ap (λ (x : List Glyph). runGlyphs x (recordOf n r)) a ∙ one-stands r pre rest n e,
+        ap (λ (x : List Glyph). run_glyphs x (record_of n r)) a ∙ one-stands r pre rest n e,
         subst (λ (x : List Glyph). Stand x (n + len_of r.chunk) rs) (append_assoc pre (map f gs) rest ∙ sym a) (all-stand rs (pre ++ map f gs) (n + len_of r.chunk) m),
       )
 
-  records-show : (j : ℕ) → j < 16 → (gs : List Glyph) (n : ℕ) (rs : List Stretch) → Stand gs n rs → runsShow j gs (recordsOf n rs) ≡ map (spelledCell u) (runCells j rs)
-  unfolding recordsOf
+  records-show : (j : ℕ) → j < 16 → (gs : List Glyph) (n : ℕ) (rs : List Stretch) → Stand gs n rs → runs_show j gs (records_of n rs) ≡ map (spelled_cell u) (run_cells j rs)
+  unfolding records_of
   records-show j l gs n [] h = refl
   records-show j l gs n (r ∷ rs) h =
-      ap₂ (λ (x y : List Cell). x ++ y) (ap₂ paint (env-in r.force j l) h.0 ∙ paint-spelled u (r.force j) (glyphsOf r.chunk)) (records-show j l gs (n + len_of r.chunk) rs h.1)
-      ∙ sym (map-append (spelledCell u) (paint (r.force j) (glyphsOf r.chunk)) (runCells j rs))
+      ap₂ (λ (x y : List Cell). x ++ y) (ap₂ paint (env_in r.force j l) h.0 ∙ paint-spelled u (r.force j) (glyphs_of r.chunk)) (records-show j l gs (n + len_of r.chunk) rs h.1)
+      ∙ sym (map-append (spelled_cell u) (paint (r.force j) (glyphs_of r.chunk)) (run_cells j rs))
 
 -- plain or joined, the cells are the list's
-by-cells : (b : Bool) (j : ℕ) → j < 16 → (l : List Item) → runCells j (runsBy b (runs l)) ≡ cells live j 0 l
-unfolding runsBy
+by-cells : (b : Bool) (j : ℕ) → j < 16 → (l : List Item) → run_cells j (runs_by b (runs l)) ≡ cells live j 0 l
+unfolding runs_by
 by-cells false j h l = runs-cells j l
-by-cells true j h l = joined-cells j (key_in j h) (runs l) ∙ runs-cells j l
+by-cells true j h l = joined-cells j (key_in_lem j h) (runs l) ∙ runs-cells j l
 
-pub by-glyphs : (b : Bool) (l : List Item) → allGlyphs (runsBy b (runs l)) ≡ seenGlyphs l
-by-glyphs b l = sym (cells-glyphs 0 (runsBy b (runs l))) ∙ ap glyphsIn (by-cells b 0 (omega arith) l) ∙ in_cells 0 0 l
+pub by-glyphs : (b : Bool) (l : List Item) → all_glyphs (runs_by b (runs l)) ≡ seen_glyphs l
+by-glyphs b l = sym (cells-glyphs 0 (runs_by b (runs l))) ∙ ap glyphs_in (by-cells b 0 (omega arith) l) ∙ in_cells 0 0 l
 
 -- The visible text of a list has room for the records of its runs, each where it stands.
-pub runs-stand : (u : List ℕ) (b : Bool) (l : List Item) → Stand u (map (spelled u) (seenGlyphs l)) 0 (runsBy b (runs l))
-runs-stand u b l = subst (λ (x : List Glyph). Stand u (map (spelled u) x) 0 (runsBy b (runs l))) (by-glyphs b l) (all-stand u (runsBy b (runs l)) [] 0 refl)
+pub runs_stand : (u : List ℕ) (b : Bool) (l : List Item) → Stand u (map (spelled u) (seen_glyphs l)) 0 (runs_by b (runs l))
+runs_stand u b l = subst (λ (x : List Glyph). Stand u (map (spelled u) x) 0 (runs_by b (runs l))) (by-glyphs b l) (all-stand u (runs_by b (runs l)) [] 0 refl)
 
 -- ---- keys counted, and neighbours apart
 those-same : (p q : ℕ → Bool) (ks : List ℕ) → ((k : ℕ) → In k ks → p k ≡ q k) → those p ks ≡ those q ks
@@ -116,43 +116,43 @@ those-same p q [] h = refl
 those-same p q (k ∷ ks) h = ap₂ (λ (b : Bool) (xs : List ℕ). cond b (k ∷ xs) xs) (h k (here refl)) (those-same p q ks (λ j i. h j (there i)))
 
 -- a packed set has the keys that it was packed from
-present-in : (a : Set) → present keys (says (packed a)) ≡ present keys a
-present-in a = those-same (λ k. not (isAbsent (says (packed a) k))) (λ k. not (isAbsent (a k))) keys (λ k i. ap (λ (x : Slot). not (isAbsent x)) (says-in a k (key_below k i)))
+present_in : (a : Set) → present keys (says (packed a)) ≡ present keys a
+present_in a = those-same (λ k. not (is_absent (says (packed a) k))) (λ k. not (is_absent (a k))) keys (λ k i. ap (λ (x : Slot). not (is_absent x)) (says_in a k (key_below k i)))
 
-records-counted : (n : ℕ) (rs : List Stretch) → Counted (recordsOf n rs)
-unfolding recordsOf
+records-counted : (n : ℕ) (rs : List Stretch) → Counted (records_of n rs)
+unfolding records_of
 records-counted n [] = tt
-records-counted n (r ∷ rs) = (ap length (sym (present-in (asSet r.force))), records-counted (n + len_of r.chunk) rs)
+records-counted n (r ∷ rs) = (ap length (sym (present_in (as_set r.force))), records-counted (n + len_of r.chunk) rs)
 
 is-text : (b : Bool) → not b ≡ false → b ≡ true
 is-text true e = refl
 is-text false e = sym e
 
-records-apart : (n : ℕ) {rs : List Stretch} → Maximal rs → Apart (recordsOf n rs)
-unfolding recordsOf
+records-apart : (n : ℕ) {rs : List Stretch} → Maximal rs → Apart (records_of n rs)
+unfolding records_of
 records-apart n none_left = tt
 records-apart n one_left = tt
 records-apart n (apart {r = r} {s = s} q m) = (
-  λ e f. let d = apart-differ r s q (is-text (isText r.chunk) e) (is-text (isText s.chunk) f) in
+  λ e f. let d = apart_differ r s q (is-text (is_text r.chunk) e) (is-text (is_text s.chunk) f) in
       let l = key_below d.0 d.1 in
-      (d.0, l, λ z. d.2 (sym (env-in r.force d.0 l) ∙ z ∙ env-in s.force d.0 l)),
+      (d.0, l, λ z. d.2 (sym (env_in r.force d.0 l) ∙ z ∙ env_in s.force d.0 l)),
   records-apart (n + len_of r.chunk) m,
 )
 
-by_apart : (b : Bool) → b ≡ true → (rs : List Stretch) → Maximal (joined rs) → Apart (recordsOf 0 (runsBy b rs))
-unfolding runsBy
+by_apart : (b : Bool) → b ≡ true → (rs : List Stretch) → Maximal (joined rs) → Apart (records_of 0 (runs_by b rs))
+unfolding runs_by
 by_apart true e rs m = records-apart 0 m
 by_apart false e rs m = absurd (true≢false (sym e))
 
 -- The runs of a sound sheet in memory.
-pub runs-listed : (s : State) → sound s ≡ true → (b : Bool) → Listed s b
-runs-listed s ok b = record {
+pub runs_listed : (s : State) → sound s ≡ true → (b : Bool) → Listed s b
+runs_listed s ok b = record {
   accepted = ap (λ (z : Count). z.refusal) (counted_is s ok b);
-  past = λ n h. at-is s ok b n ∙ ap first (drop_of_length-le (recordsIn s.head s.words b) {i = n} (omega (arith, ap (λ (z : Count). z.count) (counted_is s ok b))));
+  past = λ n h. at-is s ok b n ∙ ap first (drop_of_length-le (records_in s.head s.words b) {i = n} (omega (arith, ap (λ (z : Count). z.count) (counted_is s ok b))));
   shows = λ j l.
-      ap (runsShow j (visibleOf s)) (all_read s ok b)
-      ∙ records-show s.units j l (visibleOf s) 0 (runsBy b (runs (model s).items)) (runs-stand s.units b (model s).items)
-      ∙ ap (map (spelledCell s.units)) (by-cells b j l (model s).items);
-  counts = subst Counted (sym (all_read s ok b)) (records-counted 0 (runsBy b (runs (model s).items)));
-  apart = λ e. subst Apart (sym (all_read s ok b)) (by_apart b e (runs (model s).items) (joined-maximal (runs (model s).items)));
+      ap (runs_show j (visible_of s)) (all_read s ok b)
+      ∙ records-show s.units j l (visible_of s) 0 (runs_by b (runs (model s).items)) (runs_stand s.units b (model s).items)
+      ∙ ap (map (spelled_cell s.units)) (by-cells b j l (model s).items);
+  counts = subst Counted (sym (all_read s ok b)) (records-counted 0 (runs_by b (runs (model s).items)));
+  apart = λ e. subst Apart (sym (all_read s ok b)) (by_apart b e (runs (model s).items) (joined_maximal (runs (model s).items)));
 }

@@ -11,41 +11,41 @@ use borrow.Author.Tests.{eqb-true, eqb-false}
 use Rattle.sets.specs.Sets.{Slot, lay, keys}
 use Rattle.rules.specs.Sheet.{What, text, embed, mark, Item}
 use Rattle.rules.specs.Sound.{Fits, AllFit}
-use Rattle.rules.specs.Reading.{Seen, passKey, Glyph, unit, unitsOf, glyphs, Cell, paint, shown, cells, layCell, insert, delete, retain, read}
+use Rattle.rules.specs.Reading.{Seen, pass_key, Glyph, unit, units_of, glyphs, Cell, paint, shown, cells, lay_cell, insert, delete, retain, read}
 use Rattle.rules.specs.Calls.{Sheet, Call, call}
 use Rattle.rules.specs.Rulings.{SoundSheet, brought}
-use Rattle.rules.specs.PieceParts.{after as ruledAfter}
+use Rattle.rules.specs.PieceParts.{after as ruled_after}
 use Rattle.laws.proofs.Lists.{In, here, there, map-append}
-use Rattle.laws.proofs.Calls.{call-cases, call-sound, ruling-units}
+use Rattle.laws.proofs.Calls.{call_cases, call-sound, ruling-units}
 use Rattle.laws.proofs.Transaction.{FineCalls}
 use Rattle.layout.proofs.Soundness.{sound-parts}
 use Rattle.layout.proofs.Models.{used-length, model-sound}
 use Rattle.events.specs.Told.{Ops}
 use Rattle.demands.specs.Steps.{State, sound, model, Step, after, calls_of}
-use Rattle.demands.specs.Written.{spelled, spelledCell, spelledOp}
+use Rattle.demands.specs.Written.{spelled, spelled_cell, spelled_op}
 use Rattle.demands.proofs.Bridge.{after-sound, after-model}
 
 -- ---- keys
-abbrev keysFrom : ℕ → ℕ → List ℕ
-keysFrom k zero = []
-keysFrom k (suc n) = k ∷ keysFrom (suc k) n
+abbrev keys_from : ℕ → ℕ → List ℕ
+keys_from k zero = []
+keys_from k (suc n) = k ∷ keys_from (suc k) n
 
-key-from : (n k j : ℕ) → k ≤ j → j < k + n → In j (keysFrom k n)
-key-from zero k j l h = absurd (omega arith)
-key-from (suc n) k j l h = go (eqb j k) refl (λ m. key-from n (suc k) j m (omega arith))
+key_from : (n k j : ℕ) → k ≤ j → j < k + n → In j (keys_from k n)
+key_from zero k j l h = absurd (omega arith)
+key_from (suc n) k j l h = go (eqb j k) refl (λ m. key_from n (suc k) j m (omega arith))
   where
-    go : (b : Bool) → eqb j k ≡ b → (suc k ≤ j → In j (keysFrom (suc k) n)) → In j (k ∷ keysFrom (suc k) n)
+    go : (b : Bool) → eqb j k ≡ b → (suc k ≤ j → In j (keys_from (suc k) n)) → In j (k ∷ keys_from (suc k) n)
     go true e on = here (eqb-true j k e)
     go false e on = let q = eqb-false j k e in there (on (omega arith))
 
-from-below : (n k j : ℕ) → In j (keysFrom k n) → j < k + n
+from-below : (n k j : ℕ) → In j (keys_from k n) → j < k + n
 from-below (suc n) k j (here e) = omega arith
 from-below (suc n) k j (there i) = omega (arith, from-below n (suc k) j i)
 
 -- The keys are the numbers below 16.
-pub key_in : (j : ℕ) → j < 16 → In j keys
+pub key_in_lem : (j : ℕ) → j < 16 → In j keys
 unfolding keys
-key_in j l = key-from 16 0 j (omega arith) (omega arith)
+key_in_lem j l = key_from 16 0 j (omega arith) (omega arith)
 
 pub key_below : (j : ℕ) → In j keys → j < 16
 unfolding keys
@@ -53,71 +53,71 @@ key_below j i = from-below 16 0 j i
 
 -- ---- reading
 module _ (u : List ℕ) where
-  pub paint-spelled : (v : ℕ) (gs : List Glyph) → paint v (map (spelled u) gs) ≡ map (spelledCell u) (paint v gs)
+  pub paint-spelled : (v : ℕ) (gs : List Glyph) → paint v (map (spelled u) gs) ≡ map (spelled_cell u) (paint v gs)
   paint-spelled v [] = refl
   paint-spelled v (g ∷ gs) = ap (λ (x : List Cell). record { glyph = spelled u g; value = v } ∷ x) (paint-spelled v gs)
 
-  take-spelled : (n : ℕ) (cs : List Cell) → take n (map (spelledCell u) cs) ≡ map (spelledCell u) (take n cs)
+  take-spelled : (n : ℕ) (cs : List Cell) → take n (map (spelled_cell u) cs) ≡ map (spelled_cell u) (take n cs)
   take-spelled zero cs = refl
   take-spelled (suc n) [] = refl
-  take-spelled (suc n) (c ∷ cs) = ap (λ (x : List Cell). spelledCell u c ∷ x) (take-spelled n cs)
+  take-spelled (suc n) (c ∷ cs) = ap (λ (x : List Cell). spelled_cell u c ∷ x) (take-spelled n cs)
 
-  drop-spelled : (n : ℕ) (cs : List Cell) → drop n (map (spelledCell u) cs) ≡ map (spelledCell u) (drop n cs)
+  drop-spelled : (n : ℕ) (cs : List Cell) → drop n (map (spelled_cell u) cs) ≡ map (spelled_cell u) (drop n cs)
   drop-spelled zero cs = refl
   drop-spelled (suc n) [] = refl
   drop-spelled (suc n) (c ∷ cs) = drop-spelled n cs
 
-  lay-spelled : (s : Slot) (cs : List Cell) → map (layCell s) (map (spelledCell u) cs) ≡ map (spelledCell u) (map (layCell s) cs)
+  lay-spelled : (s : Slot) (cs : List Cell) → map (lay_cell s) (map (spelled_cell u) cs) ≡ map (spelled_cell u) (map (lay_cell s) cs)
   lay-spelled s [] = refl
-  lay-spelled s (c ∷ cs) = ap (λ (x : List Cell). spelledCell u (layCell s c) ∷ x) (lay-spelled s cs)
+  lay-spelled s (c ∷ cs) = ap (λ (x : List Cell). spelled_cell u (lay_cell s c) ∷ x) (lay-spelled s cs)
 
-  pub read-spelled : (j : ℕ) (ops : Ops) (cs : List Cell) → read j (map (spelledOp u) ops) (map (spelledCell u) cs) ≡ map (spelledCell u) (read j ops cs)
+  pub read-spelled : (j : ℕ) (ops : Ops) (cs : List Cell) → read j (map (spelled_op u) ops) (map (spelled_cell u) cs) ≡ map (spelled_cell u) (read j ops cs)
   read-spelled j [] cs = refl
   read-spelled j (insert gs a ∷ ops) cs =
-      ap₂ (λ (x y : List Cell). x ++ y) (paint-spelled (lay (a j) 0) gs) (read-spelled j ops cs) ∙ sym (map-append (spelledCell u) (paint (lay (a j) 0) gs) (read j ops cs))
-  read-spelled j (delete n ∷ ops) cs = ap (read j (map (spelledOp u) ops)) (drop-spelled n cs) ∙ read-spelled j ops (drop n cs)
+      ap₂ (λ (x y : List Cell). x ++ y) (paint-spelled (lay (a j) 0) gs) (read-spelled j ops cs) ∙ sym (map-append (spelled_cell u) (paint (lay (a j) 0) gs) (read j ops cs))
+  read-spelled j (delete n ∷ ops) cs = ap (read j (map (spelled_op u) ops)) (drop-spelled n cs) ∙ read-spelled j ops (drop n cs)
   read-spelled j (retain n a ∷ ops) cs =
       ap₂ (λ (x y : List Cell). x ++ y)
-      (ap (map (layCell (a j))) (take-spelled n cs) ∙ lay-spelled (a j) (take n cs))
-      (ap (read j (map (spelledOp u) ops)) (drop-spelled n cs) ∙ read-spelled j ops (drop n cs))
-      ∙ sym (map-append (spelledCell u) (map (layCell (a j)) (take n cs)) (read j ops (drop n cs)))
+      (ap (map (lay_cell (a j))) (take-spelled n cs) ∙ lay-spelled (a j) (take n cs))
+      (ap (read j (map (spelled_op u) ops)) (drop-spelled n cs) ∙ read-spelled j ops (drop n cs))
+      ∙ sym (map-append (spelled_cell u) (map (lay_cell (a j)) (take n cs)) (read j ops (drop n cs)))
 
 -- ---- the same units, the same page
 module _ (a b : List ℕ) (used : ℕ) (alike : (p : ℕ) → p < used → get_or a p 0 ≡ get_or b p 0) where
-  units-alike : (v s n : ℕ) → s + n ≤ used → map (spelledCell a) (paint v (unitsOf s n)) ≡ map (spelledCell b) (paint v (unitsOf s n))
+  units-alike : (v s n : ℕ) → s + n ≤ used → map (spelled_cell a) (paint v (units_of s n)) ≡ map (spelled_cell b) (paint v (units_of s n))
   units-alike v s zero h = refl
   units-alike v s (suc n) h =
       ap₂ (λ (x : ℕ) (y : List Cell). record { glyph = unit x; value = v } ∷ y) (alike s (omega arith)) (units-alike v (suc s) n (omega arith))
 
-  what-alike : (v : ℕ) (w : What) → Fits used w → map (spelledCell a) (paint v (glyphs w)) ≡ map (spelledCell b) (paint v (glyphs w))
+  what-alike : (v : ℕ) (w : What) → Fits used w → map (spelled_cell a) (paint v (glyphs w)) ≡ map (spelled_cell b) (paint v (glyphs w))
   what-alike v (text s n) f = units-alike v s n f.1
   what-alike v (embed e) f = refl
   what-alike v (mark k x) f = refl
 
-  item-alike : (seen : Seen) (i : Item) (v : ℕ) → Fits used i.what → map (spelledCell a) (shown seen i v) ≡ map (spelledCell b) (shown seen i v)
+  item-alike : (seen : Seen) (i : Item) (v : ℕ) → Fits used i.what → map (spelled_cell a) (shown seen i v) ≡ map (spelled_cell b) (shown seen i v)
   item-alike seen i v f = go (seen i.flags)
     where
-      go : (t : Bool) → map (spelledCell a) (cond t (paint v (glyphs i.what)) []) ≡ map (spelledCell b) (cond t (paint v (glyphs i.what)) [])
+      go : (t : Bool) → map (spelled_cell a) (cond t (paint v (glyphs i.what)) []) ≡ map (spelled_cell b) (cond t (paint v (glyphs i.what)) [])
       go true = what-alike v i.what f
       go false = refl
 
-  pub cells-alike : (seen : Seen) (j v : ℕ) (l : List Item) → AllFit used l → map (spelledCell a) (cells seen j v l) ≡ map (spelledCell b) (cells seen j v l)
+  pub cells-alike : (seen : Seen) (j v : ℕ) (l : List Item) → AllFit used l → map (spelled_cell a) (cells seen j v l) ≡ map (spelled_cell b) (cells seen j v l)
   cells-alike seen j v [] f = refl
   cells-alike seen j v (i ∷ l) f =
-      map-append (spelledCell a) (shown seen i v) (cells seen j (passKey seen j i v) l)
-      ∙ ap₂ (λ (x y : List Cell). x ++ y) (item-alike seen i v f.1) (cells-alike seen j (passKey seen j i v) l f.2)
-      ∙ sym (map-append (spelledCell b) (shown seen i v) (cells seen j (passKey seen j i v) l))
+      map-append (spelled_cell a) (shown seen i v) (cells seen j (pass_key seen j i v) l)
+      ∙ ap₂ (λ (x y : List Cell). x ++ y) (item-alike seen i v f.1) (cells-alike seen j (pass_key seen j i v) l f.2)
+      ∙ sym (map-append (spelled_cell b) (shown seen i v) (cells seen j (pass_key seen j i v) l))
 
 -- ---- units in use stay
 record Longer (a b : List ℕ) : Type 0 where
   more : List ℕ
   is : b ≡ a ++ more
 
-calls-longer : (cs : List Call) → FineCalls cs → (s : Sheet) → SoundSheet s → Longer s.units (ruledAfter cs s).units
+calls-longer : (cs : List Call) → FineCalls cs → (s : Sheet) → SoundSheet s → Longer s.units (ruled_after cs s).units
 calls-longer [] d s k = record { more = []; is = sym (append-nil s.units) }
 calls-longer (c ∷ cs) d s k =
     let one : Longer s.units (call c s).sheet.units =
-    call-cases (λ o. Longer s.units o.sheet.units) c s k.within
+    call_cases (λ o. Longer s.units o.sheet.units) c s k.within
     (λ n z. record { more = []; is = sym (append-nil s.units) }) (λ e z. record { more = brought c; is = ruling-units c s }) in
     let on = calls-longer cs d.1 (call c s).sheet (call-sound c d.0 s k) in
     record {

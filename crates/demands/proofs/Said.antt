@@ -7,35 +7,35 @@ use mathlib.Core.List.{List, [], ◌∷◌, ◌++◌, map}
 use lib.Dec.{eqb}
 use lib.ListN.{length, take}
 use lib.Seq.{get_or-take}
-use Rattle.sets.specs.Sets.{absent, is, Set, Env, isAbsent, keys, present, asSet}
+use Rattle.sets.specs.Sets.{absent, is, Set, Env, is_absent, keys, present, as_set}
 use Rattle.attrs.specs.Packed.{says, packed}
-use Rattle.attrs.proofs.Force.{says-in}
+use Rattle.attrs.proofs.Force.{says_in}
 use Rattle.rules.specs.Sheet.{What, text, embed, mark, Item}
 use Rattle.rules.specs.Sound.{Fits, AllFit}
-use Rattle.rules.specs.Reading.{Seen, before, live, Glyph, unit, thing, unitsOf, glyphs, visible, insert, delete, retain}
+use Rattle.rules.specs.Reading.{Seen, before, live, Glyph, unit, thing, units_of, glyphs, visible, insert, delete, retain}
 use Rattle.rules.specs.Event.{event, script}
-use Rattle.rules.specs.Scripts.{seenBy, given}
-use Rattle.rules.specs.Runs.{Chunk, words, object, Run as Stretch, runs, glyphsOf, keys_of, runKeys}
+use Rattle.rules.specs.Scripts.{seen_by, given}
+use Rattle.rules.specs.Runs.{Chunk, words, object, Run as Stretch, runs, glyphs_of, keys_of, run_keys}
 use Rattle.rules.specs.Runs as rules
 use Rattle.rules.specs.Calls.{unit_at}
-use Rattle.rules.specs.PieceParts.{Attrs, pairFor, pairs, valued, Said, t, x, r, d, Says, holds, shows, leaves, long, plain, merged, tells, carries, counts, item, range, replays, answer}
+use Rattle.rules.specs.PieceParts.{Attrs, pair_for, pairs, valued, Said, t, x, r, d, Says, holds, shows, leaves, long, plain, merged, tells, carries, counts, item, range, replays, answer}
 use Rattle.rules.specs.PieceParts as parts
 use Rattle.laws.proofs.Lists.{In, here, there}
 use Rattle.laws.proofs.Cuts.{seen-live}
-use Rattle.laws.proofs.Told.{given-giving, given-keeps, given-drops, event-tells}
+use Rattle.laws.proofs.Told.{given-giving, given-keeps, given_drops, event-tells}
 use Rattle.items.specs.Calls.{length_of}
 use Rattle.cursors.specs.declared.run.Run.{Run}
-use Rattle.cursors.specs.Records.{len_of, recordOf, recordsOf, runsBy}
+use Rattle.cursors.specs.Records.{len_of, record_of, records_of, runs_by}
 use Rattle.events.specs.Told.{Ops}
 use Rattle.events.proofs.Events.{walkable}
 use Rattle.demands.specs.Steps.{State, sound, model}
-use Rattle.demands.specs.Written.{spelled, spelledOp}
-use Rattle.demands.specs.Demands.{readEvent}
-use Rattle.demands.specs.Listing.{allRuns, runGlyphs, visibleOf}
-use Rattle.demands.specs.Bench.{letter, saidRun, saidGlyphs, saidOp, answerBy}
+use Rattle.demands.specs.Written.{spelled, spelled_op}
+use Rattle.demands.specs.Demands.{read_event}
+use Rattle.demands.specs.Listing.{all_runs, run_glyphs, visible_of}
+use Rattle.demands.specs.Bench.{letter, said_run, said_glyphs, said_op, answer_by}
 use Rattle.demands.proofs.Pages.{key_below}
 use Rattle.demands.proofs.Transaction.{wrote-room, wrote-back}
-use Rattle.demands.proofs.Listing.{all_read, allGlyphs, Stand, by-glyphs, runs-stand}
+use Rattle.demands.proofs.Listing.{all_read, all_glyphs, Stand, by-glyphs, runs_stand}
 
 -- ---- units in use
 abbrev Below : ℕ → List Glyph → Type 0
@@ -59,7 +59,7 @@ module _ (n : ℕ) where
   below_both (unit p ∷ a) b f g = (f.0, below_both a b f.1 g)
   below_both (thing e ∷ a) b f g = below_both a b f g
 
-  below-units : (s k : ℕ) → s + k ≤ n → Below n (unitsOf s k)
+  below-units : (s k : ℕ) → s + k ≤ n → Below n (units_of s k)
   below-units s zero h = tt
   below-units s (suc k) h = (omega arith, below-units (suc s) k (omega arith))
 
@@ -68,9 +68,9 @@ module _ (n : ℕ) where
   below-what (embed e) f = tt
   below-what (mark k v) f = tt
 
-  below-seen : (see : Seen) (l : List Item) → AllFit n l → Below n (seenBy see l)
+  below-seen : (see : Seen) (l : List Item) → AllFit n l → Below n (seen_by see l)
   below-seen see [] f = tt
-  below-seen see (i ∷ l) f = below_both (cond (see i.flags) (glyphs i.what) []) (seenBy see l) (go (see i.flags)) (below-seen see l f.2)
+  below-seen see (i ∷ l) f = below_both (cond (see i.flags) (glyphs i.what) []) (seen_by see l) (go (see i.flags)) (below-seen see l f.2)
     where
       go : (b : Bool) → Below n (cond b (glyphs i.what) [])
       go true = below-what i.what f.1
@@ -85,63 +85,63 @@ module _ (n : ℕ) where
 -- ---- attributes
 pairs-same : (a b : Set) (ks : List ℕ) → ((k : ℕ) → In k ks → a k ≡ b k) → pairs ks a ≡ pairs ks b
 pairs-same a b [] h = refl
-pairs-same a b (k ∷ ks) h = ap₂ (pairFor k) (h k (here refl)) (pairs-same a b ks (λ j i. h j (there i)))
+pairs-same a b (k ∷ ks) h = ap₂ (pair_for k) (h k (here refl)) (pairs-same a b ks (λ j i. h j (there i)))
 
 pairs-packed : (a : Set) → pairs keys (says (packed a)) ≡ pairs keys a
-pairs-packed a = pairs-same (says (packed a)) a keys (λ k i. says-in a k (key_below k i))
+pairs-packed a = pairs-same (says (packed a)) a keys (λ k i. says_in a k (key_below k i))
 
-pairs-valued : (ks : List ℕ) (e : Env) → pairs ks (asSet e) ≡ valued e (keys_of ks e)
+pairs-valued : (ks : List ℕ) (e : Env) → pairs ks (as_set e) ≡ valued e (keys_of ks e)
 pairs-valued [] e = refl
 pairs-valued (k ∷ ks) e = go (eqb (e k) 0) (pairs-valued ks e)
   where
-    go : (b : Bool) → pairs ks (asSet e) ≡ valued e (keys_of ks e) → pairFor k (cond b absent (is (e k))) (pairs ks (asSet e)) ≡ valued e (cond b (keys_of ks e) (k ∷ keys_of ks e))
+    go : (b : Bool) → pairs ks (as_set e) ≡ valued e (keys_of ks e) → pair_for k (cond b absent (is (e k))) (pairs ks (as_set e)) ≡ valued e (cond b (keys_of ks e) (k ∷ keys_of ks e))
     go true h = h
     go false h = ap (λ (y : Attrs). (k, e k) ∷ y) h
 
-keys-present : (ks : List ℕ) (e : Env) → present ks (asSet e) ≡ keys_of ks e
+keys-present : (ks : List ℕ) (e : Env) → present ks (as_set e) ≡ keys_of ks e
 keys-present [] e = refl
 keys-present (k ∷ ks) e = go (eqb (e k) 0) (keys-present ks e)
   where
-    go : (b : Bool) → present ks (asSet e) ≡ keys_of ks e → cond (not (isAbsent (cond b absent (is (e k))))) (k ∷ present ks (asSet e)) (present ks (asSet e)) ≡ cond b (keys_of ks e) (k ∷ keys_of ks e)
+    go : (b : Bool) → present ks (as_set e) ≡ keys_of ks e → cond (not (is_absent (cond b absent (is (e k))))) (k ∷ present ks (as_set e)) (present ks (as_set e)) ≡ cond b (keys_of ks e) (k ∷ keys_of ks e)
     go true h = h
     go false h = ap (λ (y : List ℕ). k ∷ y) h
 
 -- ---- runs
 module _ (u : List ℕ) (used : ℕ) where
-  run-said : (q : Stretch) (vs : List Glyph) (n : ℕ) → runGlyphs vs (recordOf n q) ≡ map (spelled u) (glyphsOf q.chunk) → Below used (glyphsOf q.chunk)
-      → saidRun vs (recordOf n q) ≡ parts.saidRun (take used u) q
-  run-said q vs n h f = go q.chunk h f (pairs-packed (asSet q.force) ∙ pairs-valued keys q.force)
+  run-said : (q : Stretch) (vs : List Glyph) (n : ℕ) → run_glyphs vs (record_of n q) ≡ map (spelled u) (glyphs_of q.chunk) → Below used (glyphs_of q.chunk)
+      → said_run vs (record_of n q) ≡ parts.said_run (take used u) q
+  run-said q vs n h f = go q.chunk h f (pairs-packed (as_set q.force) ∙ pairs-valued keys q.force)
     where
-      go : (c : Chunk) → runGlyphs vs (recordOf n (record { chunk = c; force = q.force })) ≡ map (spelled u) (glyphsOf c) → Below used (glyphsOf c)
-          → pairs keys (says (packed (asSet q.force))) ≡ valued q.force (runKeys q)
-          → saidRun vs (recordOf n (record { chunk = c; force = q.force })) ≡ parts.saidChunk (take used u) c (valued q.force (runKeys q))
+      go : (c : Chunk) → run_glyphs vs (record_of n (record { chunk = c; force = q.force })) ≡ map (spelled u) (glyphs_of c) → Below used (glyphs_of c)
+          → pairs keys (says (packed (as_set q.force))) ≡ valued q.force (run_keys q)
+          → said_run vs (record_of n (record { chunk = c; force = q.force })) ≡ parts.said_chunk (take used u) c (valued q.force (run_keys q))
       go (words gs) h f p = ap₂ t (ap (map letter) h ∙ letters used u gs f) p
       go (object y) h f p = ap (x y) p
 
-  runs-said : (vs : List Glyph) (n : ℕ) (rs : List Stretch) → Stand u vs n rs → Below used (allGlyphs rs) → map (saidRun vs) (recordsOf n rs) ≡ map (parts.saidRun (take used u)) rs
-  unfolding recordsOf
+  runs-said : (vs : List Glyph) (n : ℕ) (rs : List Stretch) → Stand u vs n rs → Below used (all_glyphs rs) → map (said_run vs) (records_of n rs) ≡ map (parts.said_run (take used u)) rs
+  unfolding records_of
   runs-said vs n [] h f = refl
   runs-said vs n (q ∷ rs) h f =
-      ap₂ (λ (y : Said) (ys : List Said). y ∷ ys) (run-said q vs n h.0 (below_left used (glyphsOf q.chunk) (allGlyphs rs) f))
-      (runs-said vs (n + len_of q.chunk) rs h.1 (below_right used (glyphsOf q.chunk) (allGlyphs rs) f))
+      ap₂ (λ (y : Said) (ys : List Said). y ∷ ys) (run-said q vs n h.0 (below_left used (glyphs_of q.chunk) (all_glyphs rs) f))
+      (runs-said vs (n + len_of q.chunk) rs h.1 (below_right used (glyphs_of q.chunk) (all_glyphs rs) f))
 
-counts-said : (n : ℕ) (rs : List Stretch) → map (λ (q : Run). q.count) (recordsOf n rs) ≡ map rules.runCount rs
-unfolding recordsOf
+counts-said : (n : ℕ) (rs : List Stretch) → map (λ (q : Run). q.count) (records_of n rs) ≡ map rules.run_count rs
+unfolding records_of
 counts-said n [] = refl
 counts-said n (q ∷ rs) = ap₂ (λ (y : ℕ) (ys : List ℕ). y ∷ ys) (ap length (keys-present keys q.force)) (counts-said (n + len_of q.chunk) rs)
 
 -- ---- the event
-glyphs-said : (u : List ℕ) (used : ℕ) (gs : List Glyph) (a : Attrs) → Below used gs → saidGlyphs (map (spelled u) gs) a ≡ parts.saidGlyphs (take used u) gs a
+glyphs-said : (u : List ℕ) (used : ℕ) (gs : List Glyph) (a : Attrs) → Below used gs → said_glyphs (map (spelled u) gs) a ≡ parts.said_glyphs (take used u) gs a
 glyphs-said u used [] a f = refl
 glyphs-said u used (unit p ∷ gs) a f = ap (λ (y : List ℕ). t y a) (letters used u (unit p ∷ gs) f)
 glyphs-said u used (thing e ∷ gs) a f = refl
 
-ops-said : (u : List ℕ) (used : ℕ) (ops : Ops) → Below used (given (script ops)) → map saidOp (map (spelledOp u) ops) ≡ map (parts.saidOp (take used u)) ops
+ops-said : (u : List ℕ) (used : ℕ) (ops : Ops) → Below used (given (script ops)) → map said_op (map (spelled_op u) ops) ≡ map (parts.said_op (take used u)) ops
 ops-said u used [] f = refl
 ops-said u used (insert gs a ∷ ops) f =
     let g : Below used (gs ++ given (script ops)) = subst (Below used) (given-giving gs (script ops)) f in
     ap₂ (λ (y : Said) (ys : List Said). y ∷ ys) (glyphs-said u used gs (pairs keys a) (below_left used gs (given (script ops)) g)) (ops-said u used ops (below_right used gs (given (script ops)) g))
-ops-said u used (delete n ∷ ops) f = ap (λ (ys : List Said). d n ∷ ys) (ops-said u used ops (subst (Below used) (given-drops n (script ops)) f))
+ops-said u used (delete n ∷ ops) f = ap (λ (ys : List Said). d n ∷ ys) (ops-said u used ops (subst (Below used) (given_drops n (script ops)) f))
 ops-said u used (retain n a ∷ ops) f = ap (λ (ys : List Said). r n (pairs keys a) ∷ ys) (ops-said u used ops (subst (Below used) (given-keeps n (script ops)) f))
 
 -- ---- all that pieces ask
@@ -156,20 +156,20 @@ module _ (k : State) (ok : sound k ≡ true) (w o : List ℕ) (lw : 16384 ≤ le
   unfolding length_of
   length-asked = rw ok
 
-  runs-asked : (b : Bool) → map (saidRun (visibleOf k)) (allRuns k b) ≡ map (parts.saidRun (model k).units) (runsBy b (runs list))
+  runs-asked : (b : Bool) → map (said_run (visible_of k)) (all_runs k b) ≡ map (parts.said_run (model k).units) (runs_by b (runs list))
   runs-asked b =
-      ap (map (saidRun (visibleOf k))) (all_read k ok b)
-      ∙ runs-said k.units k.head.units (visibleOf k) 0 (runsBy b (runs list)) (runs-stand k.units b list)
+      ap (map (said_run (visible_of k))) (all_read k ok b)
+      ∙ runs-said k.units k.head.units (visible_of k) 0 (runs_by b (runs list)) (runs_stand k.units b list)
       (subst (Below k.head.units) (seen-live list ∙ sym (by-glyphs b list)) (below-seen k.head.units live list fit))
 
-  event-asked : map saidOp (readEvent k w o) ≡ map (parts.saidOp (model k).units) (event before live list)
+  event-asked : map said_op (read_event k w o) ≡ map (parts.said_op (model k).units) (event before live list)
   event-asked =
-      ap (map saidOp) (wrote-back k ok w o (wrote-room k ok w o lw lo))
+      ap (map said_op) (wrote-back k ok w o (wrote-room k ok w o lw lo))
       ∙ ops-said k.units k.head.units (event before live list)
       (subst⁻¹ (Below k.head.units) (event-tells before live list).news (below-seen k.head.units (λ f. not (before f) && live f) list fit))
 
-  pub asked : (q : Says) → answerBy k w o q ≡ answer (model k) q
-  unfolding runsBy
+  pub asked : (q : Says) → answer_by k w o q ≡ answer (model k) q
+  unfolding runs_by
   asked (long n) = ap long length-asked
   asked (plain rs) = ap plain (runs-asked false)
   asked (merged rs) = ap merged (runs-asked true)

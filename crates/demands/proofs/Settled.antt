@@ -7,7 +7,7 @@ use Rattle.rules.specs.Reading.{visible}
 use Rattle.rules.specs.Rulings.{Within, ruling, ruled, FineCall}
 use Rattle.laws.proofs.Calls.{call-accepted}
 use Rattle.laws.proofs.Shows.{call_length}
-use Rattle.layout.specs.Memory.{Carried, keptAll, storedAll}
+use Rattle.layout.specs.Memory.{Carried, kept_all, stored_all}
 use Rattle.layout.proofs.Soundness.{sound-parts}
 use Rattle.layout.proofs.Models.{model-sound}
 use Rattle.items.proofs.Carries.{carry-done}
@@ -15,7 +15,7 @@ use Rattle.sheet.proofs.Theorems.{refusal_is, refused-exactly, broken-exactly, r
 use Rattle.demands.specs.Steps.{State, sound, model, Step, does, turned, answered, left}
 use Rattle.demands.specs.Demands.{Called, Settled, FineStep}
 use Rattle.demands.proofs.Bridge.{call-model, turned-keeps}
-use Rattle.demands.proofs.Pages.{key_in}
+use Rattle.demands.proofs.Pages.{key_in_lem}
 
 module _ (c : Call) (fine : FineCall c) (s : State) where
   abbrev r : Carried
@@ -39,10 +39,10 @@ module _ (c : Call) (fine : FineCall c) (s : State) where
   ruled-is : r.refusal ≡ 0 → (call c (model s)).sheet ≡ ruled (ruling c (model s))
   ruled-is z = call-accepted c (model s) (within z) (accepted z)
 
-  stored_is : r.refusal ≡ 0 → r ≡ storedAll (ruled (ruling c (model s))) s.head s.words s.units
+  stored_is : r.refusal ≡ 0 → r ≡ stored_all (ruled (ruling c (model s))) s.head s.words s.units
   stored_is z =
       carry-done (call c) s.head s.words s.units (was-sound z) (accepted z)
-      ∙ ap (λ (x : Sheet). storedAll x s.head s.words s.units) (ruled-is z)
+      ∙ ap (λ (x : Sheet). stored_all x s.head s.words s.units) (ruled-is z)
 
   called : Called c s
   called = record {
@@ -53,7 +53,7 @@ module _ (c : Call) (fine : FineCall c) (s : State) where
     lies = λ z. call-model c fine s (was-sound z) ∙ ruled-is z;
     sound = λ ok. leaves-sound c s.head s.words s.units ok fine;
     pairs = λ ok. leaves-pairs c s.head s.words s.units ok fine;
-    shown = λ z j l. leaves-cells c s.head s.words s.units (was-sound z) fine z j (key_in j l);
+    shown = λ z j l. leaves-cells c s.head s.words s.units (was-sound z) fine z j (key_in_lem j l);
     long = λ z. ap (λ (x : Sheet). visible x.items) (call-model c fine s (was-sound z)) ∙ call_length c (model s) (within z) (accepted z);
   }
 
@@ -62,6 +62,6 @@ pub every-step : (t : Step) → FineStep t → (s : State) → Settled t s
 every-step (does c) fine s = called c fine s
 every-step (turned n) fine s = record { number = go (sound s); kept = turned-keeps n s }
   where
-    go : (b : Bool) → (cond b (keptAll n s.head s.words s.units) (keptAll 9 s.head s.words s.units)).refusal ≡ cond b n 9
+    go : (b : Bool) → (cond b (kept_all n s.head s.words s.units) (kept_all 9 s.head s.words s.units)).refusal ≡ cond b n 9
     go true = refl
     go false = refl

@@ -2,7 +2,7 @@
 use Rattle.std.specs.Prelude.{ℕ, ◌<◌, List, [], ◌∷◌, length, get_or, take}
 use Rattle.attrs.specs.declared.Attrs.{Attrs}
 use Rattle.attrs.specs.Packed.{says}
-use Rattle.rules.specs.Calls.{insertText, insertTextWith, insertEmbed, insertEmbedWith, formatRange, removeRange}
+use Rattle.rules.specs.Calls.{insert_text, insert_text_with, insert_embed, insert_embed_with, format_range, remove_range}
 use Rattle.ops.specs.declared.delta.Inserted.{Inserted}
 use Rattle.ops.specs.declared.delta.Inserted.TheVariants.{Text, Embed}
 use Rattle.ops.specs.declared.delta.Op.{Op}
@@ -10,29 +10,29 @@ use Rattle.ops.specs.declared.delta.Op.TheVariants.{Insert, Delete, Retain}
 use Rattle.ops.specs.declared.delta.DeltaOp.{DeltaOp}
 use Rattle.ops.specs.declared.delta.Delta.{Delta}
 use Rattle.ops.specs.Ops.{ops_of}
-use Rattle.deltas.specs.Checks.{manyOf}
-use Rattle.deltas.specs.Call.{shortScratch}
-use Rattle.demands.specs.Steps.{Step, does, deltaStep}
+use Rattle.deltas.specs.Checks.{many_of}
+use Rattle.deltas.specs.Call.{short_scratch}
+use Rattle.demands.specs.Steps.{Step, does, delta_step}
 
 -- A delta comes with how much scratch is lent, of words and of units.
 pub data Request : Type 0 where
   insert : ℕ → List ℕ → Request
-  insertWithAttributes : ℕ → List ℕ → Attrs → Request
+  insert_with_attributes : ℕ → List ℕ → Attrs → Request
   embed : ℕ → ℕ → Request
-  embedWithAttributes : ℕ → ℕ → Attrs → Request
+  embed_with_attributes : ℕ → ℕ → Attrs → Request
   format : ℕ → ℕ → Attrs → Request
   remove : ℕ → ℕ → Request
   delta : ℕ → ℕ → List ℕ → Delta → Request
 
 -- What each promises to carry out.
 abbrev pub step_of : Request → Step
-step_of (insert i us) = does (insertText i us)
-step_of (insertWithAttributes i us a) = does (insertTextWith i us (says a))
-step_of (embed i e) = does (insertEmbed i e)
-step_of (embedWithAttributes i e a) = does (insertEmbedWith i e (says a))
-step_of (format i n a) = does (formatRange i n (says a))
-step_of (remove i n) = does (removeRange i n)
-step_of (delta sm su us d) = deltaStep (manyOf (length us) d) (shortScratch sm su) (ops_of us d)
+step_of (insert i us) = does (insert_text i us)
+step_of (insert_with_attributes i us a) = does (insert_text_with i us (says a))
+step_of (embed i e) = does (insert_embed i e)
+step_of (embed_with_attributes i e a) = does (insert_embed_with i e (says a))
+step_of (format i n a) = does (format_range i n (says a))
+step_of (remove i n) = does (remove_range i n)
+step_of (delta sm su us d) = delta_step (many_of (length us) d) (short_scratch sm su) (ops_of us d)
 
 -- Arguments of their types: the values of a set are bytes, an embed's number has 32 bits.
 abbrev pub Bytes : Attrs → Type 0
@@ -53,9 +53,9 @@ TypedOps (d ∷ ds) = TypedOp d.op × Bytes d.attrs × TypedOps ds
 
 abbrev pub Typed : Request → Type 0
 Typed (insert i us) = Unit {0}
-Typed (insertWithAttributes i us a) = Bytes a
+Typed (insert_with_attributes i us a) = Bytes a
 Typed (embed i e) = e < 4294967296
-Typed (embedWithAttributes i e a) = (e < 4294967296) × Bytes a
+Typed (embed_with_attributes i e a) = (e < 4294967296) × Bytes a
 Typed (format i n a) = Bytes a
 Typed (remove i n) = Unit {0}
 Typed (delta sm su us d) = TypedOps (take d.count d.ops)

@@ -13,7 +13,7 @@ use Rattle.encoding.specs.declared.Found.TheVariants.{Is, Nothing}
 use Rattle.encoding.specs.Words.{found_at}
 use Rattle.events.specs.declared.event.EventAnswer.{EventAnswer}
 use Rattle.events.specs.Told.{Ops}
-use Rattle.events.specs.Given.{given, atFront}
+use Rattle.events.specs.Given.{given, at_front}
 use Rattle.demands.specs.Steps.{State}
 
 -- ---- what is written
@@ -28,30 +28,30 @@ abbrev pub wrote : State → List ℕ → List ℕ → Wrote
 wrote s w o =
     record {
       answer = (given before live s.head s.words s.units (length w) (length o)).answer;
-      words = atFront (given before live s.head s.words s.units (length w) (length o)).words w;
-      units = atFront (given before live s.head s.words s.units (length w) (length o)).units o;
+      words = at_front (given before live s.head s.words s.units (length w) (length o)).words w;
+      units = at_front (given before live s.head s.words s.units (length w) (length o)).units o;
     }
 
 -- ---- read back
 -- The units of a text part, or the embed.
-abbrev pub partIn : List ℕ → Inserted → List Glyph
-partIn o (Text s n) = map unit (take n (drop s o))
-partIn o (Embed e) = thing e ∷ []
+abbrev pub part_in : List ℕ → Inserted → List Glyph
+part_in o (Text s n) = map unit (take n (drop s o))
+part_in o (Embed e) = thing e ∷ []
 
-abbrev pub opIn : List ℕ → Kind → Attrs → Op (List Glyph)
-opIn o (Insert i) a = insert (partIn o i) (says a)
-opIn o (Delete n) a = delete n
-opIn o (Retain n) a = retain n (says a)
+abbrev pub op_in : List ℕ → Kind → Attrs → Op (List Glyph)
+op_in o (Insert i) a = insert (part_in o i) (says a)
+op_in o (Delete n) a = delete n
+op_in o (Retain n) a = retain n (says a)
 
 -- What `op_at` finds, as an operation of the rules; nothing where it finds none.
-abbrev pub opsFound : List ℕ → Found → Attrs → Ops
-opsFound o (Is k) a = opIn o k a ∷ []
-opsFound o Nothing a = []
+abbrev pub ops_found : List ℕ → Found → Attrs → Ops
+ops_found o (Is k) a = op_in o k a ∷ []
+ops_found o Nothing a = []
 
 -- The n operations from number i on.
-unfoldable pub readBack : ℕ → ℕ → List ℕ → List ℕ → Ops
-readBack i zero w o = []
-readBack i (suc n) w o = opsFound o (found_at w i).op (found_at w i).attrs ++ readBack (suc i) n w o
+unfoldable pub read_back : ℕ → ℕ → List ℕ → List ℕ → Ops
+read_back i zero w o = []
+read_back i (suc n) w o = ops_found o (found_at w i).op (found_at w i).attrs ++ read_back (suc i) n w o
 
 -- ---- what a caller sees
 -- A unit itself, in the stead of its place.
@@ -59,14 +59,14 @@ abbrev pub spelled : List ℕ → Glyph → Glyph
 spelled u (unit p) = unit (get_or u p 0)
 spelled u (thing e) = thing e
 
-abbrev pub spelledCell : List ℕ → Cell → Cell
-spelledCell u c = record { glyph = spelled u c.glyph; value = c.value }
+abbrev pub spelled_cell : List ℕ → Cell → Cell
+spelled_cell u c = record { glyph = spelled u c.glyph; value = c.value }
 
-abbrev pub spelledOp : List ℕ → Op (List Glyph) → Op (List Glyph)
-spelledOp u (insert gs a) = insert (map (spelled u) gs) a
-spelledOp u (delete n) = delete n
-spelledOp u (retain n a) = retain n a
+abbrev pub spelled_op : List ℕ → Op (List Glyph) → Op (List Glyph)
+spelled_op u (insert gs a) = insert (map (spelled u) gs) a
+spelled_op u (delete n) = delete n
+spelled_op u (retain n a) = retain n a
 
 -- The visible units and embeds of a sheet, each with its value of the key j.
 abbrev pub page : ℕ → State → List Cell
-page j s = map (spelledCell s.units) (cells live j 0 (list_of s.head s.words))
+page j s = map (spelled_cell s.units) (cells live j 0 (list_of s.head s.words))

@@ -2,9 +2,9 @@
 ghost use Rattle.std.specs.Prelude.{◌≡◌, ◌+◌, ◌/◌, ◌<◌, ◌≤◌, length};
 ghost use Rattle.attrs.specs.Packed.{says};
 ghost use Rattle.rules.specs.Edits.{closing, walking, format};
-ghost use Rattle.layout.specs.Word.{whatOf, unpackOf};
+ghost use Rattle.layout.specs.Word.{what_of, unpack_of};
 ghost use Rattle.arena.specs.Places.{SIZE, Neat, Standing, Carried, Going};
-ghost use Rattle.edits.specs.Formats.{liveTurn, walksOver, turn_of, killedIf, leftAfter, rememberedAfter};
+ghost use Rattle.edits.specs.Formats.{live_turn, walks_over, turn_of, killed_if, left_after, remembered_after};
 
 use arena::writes::{delete, split};
 use arena::{At, Place, forward};
@@ -26,7 +26,7 @@ const CUT: u32 = 4;
 
 // A live item: a mark whose key the set has is deleted, what fits is gone through, and a longer text is cut.
 fn live_turn(c: Content, left: u32, attrs: Attrs) -> u32
-    ensures { result ≡ liveTurn (says attrs) left (whatOf c) }
+    ensures { result ≡ live_turn (says attrs) left (what_of c) }
 {
     match c {
         Content::Text { start: _, len } => {
@@ -52,7 +52,7 @@ fn live_turn(c: Content, left: u32, attrs: Attrs) -> u32
 
 // While length is left, or while something is remembered and only marks and deleted items follow.
 fn walks_on(it: Item, left: u32, remembered: Attrs) -> bool
-    ensures { result ≡ walksOver left (says remembered) it.dead (whatOf it.content) }
+    ensures { result ≡ walks_over left (says remembered) it.dead (what_of it.content) }
 {
     if left > 0 {
         return true;
@@ -68,7 +68,7 @@ fn walks_on(it: Item, left: u32, remembered: Attrs) -> bool
 }
 
 fn turn_of(w: u64, left: u32, attrs: Attrs, remembered: Attrs) -> u32
-    ensures { result ≡ turn_of (says attrs) left (says remembered) (unpackOf w).dead (whatOf (unpackOf w).content) }
+    ensures { result ≡ turn_of (says attrs) left (says remembered) (unpack_of w).dead (what_of (unpack_of w).content) }
 {
     let it = unpack(w);
     if !walks_on(it, left, remembered) {
@@ -83,7 +83,7 @@ fn turn_of(w: u64, left: u32, attrs: Attrs, remembered: Attrs) -> u32
 
 fn delete_if(items: &mut [u64], n: u32, turn: u32)
     requires { n < length items.old }
-    ensures { items.new ≡ killedIf turn items.old n }
+    ensures { items.new ≡ killed_if turn items.old n }
 {
     if turn == MARK {
         delete(items, n);
@@ -91,7 +91,7 @@ fn delete_if(items: &mut [u64], n: u32, turn: u32)
 }
 
 fn left_after(w: u64, left: u32, turn: u32) -> u32
-    ensures { result ≡ leftAfter turn left (whatOf (unpackOf w).content) }
+    ensures { result ≡ left_after turn left (what_of (unpack_of w).content) }
 {
     if turn != THROUGH {
         return left;
@@ -108,7 +108,7 @@ fn left_after(w: u64, left: u32, turn: u32) -> u32
 // A deleted mark of the set's own value is forgotten; one of another value is what to restore.
 fn remembered_after(w: u64, turn: u32, attrs: Attrs, remembered: Attrs) -> Attrs
     requires { Neat w }
-    ensures { says result ≡ rememberedAfter turn (says attrs) (whatOf (unpackOf w).content) (says remembered) }
+    ensures { says result ≡ remembered_after turn (says attrs) (what_of (unpack_of w).content) (says remembered) }
 {
     if turn != MARK {
         return remembered;

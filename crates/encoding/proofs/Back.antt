@@ -15,7 +15,7 @@ use Rattle.ops.specs.declared.delta.Op.TheVariants.{Insert, Delete, Retain}
 use Rattle.ops.specs.declared.delta.DeltaOp.{DeltaOp}
 use Rattle.encoding.specs.declared.Found.TheVariants.{Is}
 use Rattle.encoding.specs.declared.MaybeOp.{MaybeOp}
-use Rattle.encoding.specs.Words.{kind_of, first_of, second_of, four, words_of, allWords, bytes_of, meantBy, opFrom, found_from, found_at}
+use Rattle.encoding.specs.Words.{kind_of, first_of, second_of, four, words_of, all_words, bytes_of, meant_by, op_from, found_from, found_at}
 
 -- An operation that is there, with its set.
 abbrev pub found : DeltaOp → MaybeOp
@@ -69,7 +69,7 @@ values-back v e s = read ∙ ap (λ (n : ℕ). listing n (λ k. get_or v k 0)) (
 
 -- ---- an operation
 
-kind-back : (o : Op) → meantBy (kind_of o) (first_of o) (second_of o) ≡ Is o
+kind-back : (o : Op) → meant_by (kind_of o) (first_of o) (second_of o) ≡ Is o
 kind-back (Insert (Text s n)) = refl
 kind-back (Insert (Embed e)) = refl
 kind-back (Delete n) = refl
@@ -82,8 +82,8 @@ pub record Lawful (a : Attrs) : Type 0 where
   pub bytes : (k : ℕ) → get_or a.values k 0 < 256
 
 pub op-back : (d : DeltaOp) → Lawful d.attrs
-    → opFrom (kind_of d.op) (first_of d.op) (second_of d.op) d.attrs.mask (four d.attrs.values 0) (four d.attrs.values 4) (four d.attrs.values 8) (four d.attrs.values 12) ≡ found d
-unfolding opFrom
+    → op_from (kind_of d.op) (first_of d.op) (second_of d.op) d.attrs.mask (four d.attrs.values 0) (four d.attrs.values 4) (four d.attrs.values 8) (four d.attrs.values 12) ≡ found d
+unfolding op_from
 op-back d h = rw (le-ltb 65535 d.attrs.mask (omega (arith, h.fits)), kind-back d.op, values-back d.attrs.values h.long h.bytes)
 
 -- ---- in a list of numbers
@@ -93,24 +93,24 @@ from_front d a rest h =
     let w = words_of d ++ rest in
     let e : (j : ℕ) → get_or (a ++ w) (length a + j) 0 ≡ get_or w j 0 = λ j. get_or-append-add a w j 0 in
     let z : length a ≡ length a + 0 = omega arith in
-    ap (λ (n : ℕ). opFrom (get_or (a ++ w) n 0) (get_or (a ++ w) (length a + 1) 0) (get_or (a ++ w) (length a + 2) 0) (get_or (a ++ w) (length a + 3) 0) (get_or (a ++ w) (length a + 4) 0) (get_or (a ++ w) (length a + 5) 0) (get_or (a ++ w) (length a + 6) 0) (get_or (a ++ w) (length a + 7) 0)) z
+    ap (λ (n : ℕ). op_from (get_or (a ++ w) n 0) (get_or (a ++ w) (length a + 1) 0) (get_or (a ++ w) (length a + 2) 0) (get_or (a ++ w) (length a + 3) 0) (get_or (a ++ w) (length a + 4) 0) (get_or (a ++ w) (length a + 5) 0) (get_or (a ++ w) (length a + 6) 0) (get_or (a ++ w) (length a + 7) 0)) z
     ∙ rw (e 0, e 1, e 2, e 3, e 4, e 5, e 6, e 7) (op-back d h)
 
-pub length-all : (ds : List DeltaOp) → length (allWords ds) ≡ length ds * 8
-length-all [] = refl
-length-all (d ∷ ds) = omega (arith, length-all ds)
+pub length_all : (ds : List DeltaOp) → length (all_words ds) ≡ length ds * 8
+length_all [] = refl
+length_all (d ∷ ds) = omega (arith, length_all ds)
 
-all_append : (a b : List DeltaOp) → allWords (a ++ b) ≡ allWords a ++ allWords b
+all_append : (a b : List DeltaOp) → all_words (a ++ b) ≡ all_words a ++ all_words b
 all_append [] b = refl
-all_append (d ∷ a) b = ap (λ (l : List ℕ). words_of d ++ l) (all_append a b) ∙ sym (append_assoc (words_of d) (allWords a) (allWords b))
+all_append (d ∷ a) b = ap (λ (l : List ℕ). words_of d ++ l) (all_append a b) ∙ sym (append_assoc (words_of d) (all_words a) (all_words b))
 
 -- Of operations at the front, whatever stands behind them, the one with a ahead of it is number `length a`.
-pub read_back : (a b : List DeltaOp) (d : DeltaOp) (rest : List ℕ) → Lawful d.attrs → found_at (allWords (a ++ d ∷ b) ++ rest) (length a) ≡ found d
+pub read_back_lem : (a b : List DeltaOp) (d : DeltaOp) (rest : List ℕ) → Lawful d.attrs → found_at (all_words (a ++ d ∷ b) ++ rest) (length a) ≡ found d
 unfolding found_at
-read_back a b d rest h =
-    let w = allWords a ++ (words_of d ++ (allWords b ++ rest)) in
-    let e : allWords (a ++ d ∷ b) ++ rest ≡ w = ap (λ (l : List ℕ). l ++ rest) (all_append a (d ∷ b)) ∙ append_assoc (allWords a) (words_of d ++ allWords b) rest ∙ ap (λ (l : List ℕ). allWords a ++ l) (append_assoc (words_of d) (allWords b) rest) in
-    let n : length w ≡ length a * 8 + length (words_of d ++ (allWords b ++ rest)) = length-append (allWords a) (words_of d ++ (allWords b ++ rest)) ∙ ap (λ (x : ℕ). x + length (words_of d ++ (allWords b ++ rest))) (length-all a) in
+read_back_lem a b d rest h =
+    let w = all_words a ++ (words_of d ++ (all_words b ++ rest)) in
+    let e : all_words (a ++ d ∷ b) ++ rest ≡ w = ap (λ (l : List ℕ). l ++ rest) (all_append a (d ∷ b)) ∙ append_assoc (all_words a) (words_of d ++ all_words b) rest ∙ ap (λ (l : List ℕ). all_words a ++ l) (append_assoc (words_of d) (all_words b) rest) in
+    let n : length w ≡ length a * 8 + length (words_of d ++ (all_words b ++ rest)) = length-append (all_words a) (words_of d ++ (all_words b ++ rest)) ∙ ap (λ (x : ℕ). x + length (words_of d ++ (all_words b ++ rest))) (length_all a) in
     let t : ltb (length w) (length a * 8 + 8) ≡ false = le-ltb (length w) (length a * 8 + 8) (omega (arith, n)) in
-    let f : found_from w (length a * 8) ≡ found d = ap (found_from w) (sym (length-all a)) ∙ from_front d (allWords a) (allWords b ++ rest) h in
+    let f : found_from w (length a * 8) ≡ found d = ap (found_from w) (sym (length_all a)) ∙ from_front d (all_words a) (all_words b ++ rest) h in
     rw (e, t) f

@@ -40,9 +40,9 @@ words_of d =
     ∷ four d.attrs.values 0 ∷ four d.attrs.values 4 ∷ four d.attrs.values 8 ∷ four d.attrs.values 12 ∷ []
 
 -- The words of operations, one after the other.
-abbrev pub allWords : List DeltaOp → List ℕ
-allWords [] = []
-allWords (d ∷ ds) = words_of d ++ allWords ds
+abbrev pub all_words : List DeltaOp → List ℕ
+all_words [] = []
+all_words (d ∷ ds) = words_of d ++ all_words ds
 
 -- ---- read back
 
@@ -53,23 +53,23 @@ bytes_of a b c d =
     ∷ c % 256 ∷ c / 256 % 256 ∷ c / 65536 % 256 ∷ c / 16777216 % 256
     ∷ d % 256 ∷ d / 256 % 256 ∷ d / 65536 % 256 ∷ d / 16777216 % 256 ∷ []
 
-abbrev pub meantBy : ℕ → ℕ → ℕ → Found
-meantBy k a b =
+abbrev pub meant_by : ℕ → ℕ → ℕ → Found
+meant_by k a b =
     cond (eqb k 1) (Is (Insert (Text a b)))
     (cond (eqb k 2) (Is (Insert (Embed a))) (cond (eqb k 3) (Is (Delete a)) (cond (eqb k 4) (Is (Retain a)) Nothing)))
 
-abbrev pub noneFound : MaybeOp
-noneFound = record { op = Nothing; attrs = packed empty }
+abbrev pub none_found : MaybeOp
+none_found = record { op = Nothing; attrs = packed empty }
 
 -- What eight numbers say. A key mask has 16 bits.
-unfoldable pub opFrom : ℕ → ℕ → ℕ → ℕ → ℕ → ℕ → ℕ → ℕ → MaybeOp
-opFrom k a b m p q r s = cond (ltb 65535 m) noneFound (record { op = meantBy k a b; attrs = record { mask = m; values = bytes_of p q r s } })
+unfoldable pub op_from : ℕ → ℕ → ℕ → ℕ → ℕ → ℕ → ℕ → ℕ → MaybeOp
+op_from k a b m p q r s = cond (ltb 65535 m) none_found (record { op = meant_by k a b; attrs = record { mask = m; values = bytes_of p q r s } })
 
 -- The operation that the eight numbers from `at` on say.
 abbrev pub found_from : List ℕ → ℕ → MaybeOp
 found_from w at =
-    opFrom (get_or w at 0) (get_or w (at + 1) 0) (get_or w (at + 2) 0) (get_or w (at + 3) 0)
+    op_from (get_or w at 0) (get_or w (at + 1) 0) (get_or w (at + 2) 0) (get_or w (at + 3) 0)
     (get_or w (at + 4) 0) (get_or w (at + 5) 0) (get_or w (at + 6) 0) (get_or w (at + 7) 0)
 
 unfoldable pub found_at : List ℕ → ℕ → MaybeOp
-found_at w i = cond (ltb (length w) (i * 8 + 8)) noneFound (found_from w (i * 8))
+found_at w i = cond (ltb (length w) (i * 8 + 8)) none_found (found_from w (i * 8))

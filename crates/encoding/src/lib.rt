@@ -2,7 +2,7 @@
 // the key mask, and the sixteen values, four to a number.
 ghost use Rattle.std.specs.Prelude.{◌≡◌, ◌+◌, ◌*◌, ◌/◌, ◌%◌, ◌<◌, ◌≤◌, length};
 ghost use Rattle.std.proofs.lemmas.List.Edits.{sets};
-ghost use Rattle.encoding.specs.Words.{bytes_of, four, meantBy, found_at, kind_of, first_of, second_of, words_of};
+ghost use Rattle.encoding.specs.Words.{bytes_of, four, meant_by, found_at, kind_of, first_of, second_of, words_of};
 
 use attrs::Attrs;
 use ops::delta::{DeltaOp, Inserted, Op};
@@ -61,7 +61,7 @@ fn quad(v: [u8; 16], k: usize) -> u32
 }
 
 fn kind_of(kind: u32, first: u32, second: u32) -> Found
-    ensures { result ≡ meantBy kind first second }
+    ensures { result ≡ meant_by kind first second }
 {
     if kind == 1 {
         let part = Inserted::Text {

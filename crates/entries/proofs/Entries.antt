@@ -11,8 +11,8 @@ use lib.ListN.{length, get_or, drop, set, drop_of_length-le}
 use lib.Seq.{sets, drop-cons}
 use lib.Dec.{eqb}
 use borrow.Author.Tests.{eq-eqb, ne_eqb}
-use Rattle.entries.specs.Entry.{entry_at, entries, sameBytes, seek, among, put_at}
-use Rattle.entries.specs.Order.{fitsAt, all_fit, distinct}
+use Rattle.entries.specs.Entry.{entry_at, entries, same_bytes, seek, among, put_at}
+use Rattle.entries.specs.Order.{fits_at, all_fit, distinct}
 
 -- ---- the slots that are left after i of n
 module _ (m : List ℕ) (s n : ℕ) where
@@ -30,23 +30,23 @@ module _ (m : List ℕ) (s n : ℕ) where
   unfolding entries
   rest_end i h = let e : n - i ≡ 0 = omega arith in rw e
 
-  pub seek_hit : (e : List ℕ) (i : ℕ) → i < n → sameBytes (entry_at m (s + i)) e ≡ true → seek e (entries m (s + i) (n - i)) ≡ 0
+  pub seek_hit : (e : List ℕ) (i : ℕ) → i < n → same_bytes (entry_at m (s + i)) e ≡ true → seek e (entries m (s + i) (n - i)) ≡ 0
   unfolding seek
   seek_hit e i h t = rw (rest-step i h, t)
 
-  pub seek-miss : (e : List ℕ) (i : ℕ) → i < n → sameBytes (entry_at m (s + i)) e ≡ false
+  pub seek-miss : (e : List ℕ) (i : ℕ) → i < n → same_bytes (entry_at m (s + i)) e ≡ false
       → seek e (entries m (s + i) (n - i)) ≡ suc (seek e (entries m (s + (i + 1)) (n - (i + 1))))
   unfolding seek
   seek-miss e i h t = rw (rest-step i h, t)
 
-  pub fit-step : (i : ℕ) → i < n → fitsAt m (s + i) ≡ true → all_fit m (s + i) (n - i) ≡ all_fit m (s + (i + 1)) (n - (i + 1))
+  pub fit-step : (i : ℕ) → i < n → fits_at m (s + i) ≡ true → all_fit m (s + i) (n - i) ≡ all_fit m (s + (i + 1)) (n - (i + 1))
   unfolding all_fit
   fit-step i h t =
       let e : n - i ≡ suc (n - (i + 1)) = omega arith in
       let f : s + (i + 1) ≡ suc (s + i) = omega arith in
       rw (e, f, t)
 
-  pub fit-fails : (i : ℕ) → i < n → fitsAt m (s + i) ≡ false → all_fit m (s + i) (n - i) ≡ false
+  pub fit-fails : (i : ℕ) → i < n → fits_at m (s + i) ≡ false → all_fit m (s + i) (n - i) ≡ false
   unfolding all_fit
   fit-fails i h t = let e : n - i ≡ suc (n - (i + 1)) = omega arith in rw (e, t)
 
@@ -70,20 +70,20 @@ module _ (m : List ℕ) (s n : ℕ) where
 
 -- ---- two contents from index i on
 module _ (a b : List ℕ) (i : ℕ) where
-  pub same_step : i < length a → i < length b → get_or a i 0 ≡ get_or b i 0 → sameBytes (drop i a) (drop i b) ≡ sameBytes (drop (i + 1) a) (drop (i + 1) b)
-  unfolding sameBytes
+  pub same_step : i < length a → i < length b → get_or a i 0 ≡ get_or b i 0 → same_bytes (drop i a) (drop i b) ≡ same_bytes (drop (i + 1) a) (drop (i + 1) b)
+  unfolding same_bytes
   same_step p q e = rw (add-one, drop-cons a i 0 p, drop-cons b i 0 q, eq-eqb _ _ e)
 
-  pub same_differs : i < length a → i < length b → (get_or a i 0 ≡ get_or b i 0 → ⊥) → sameBytes (drop i a) (drop i b) ≡ false
-  unfolding sameBytes
+  pub same_differs : i < length a → i < length b → (get_or a i 0 ≡ get_or b i 0 → ⊥) → same_bytes (drop i a) (drop i b) ≡ false
+  unfolding same_bytes
   same_differs p q e = rw (drop-cons a i 0 p, drop-cons b i 0 q, ne_eqb _ _ e)
 
-  pub same-short : i < length a → length b ≤ i → sameBytes (drop i a) (drop i b) ≡ false
-  unfolding sameBytes
+  pub same-short : i < length a → length b ≤ i → same_bytes (drop i a) (drop i b) ≡ false
+  unfolding same_bytes
   same-short p q = rw (drop-cons a i 0 p, drop_of_length-le b q)
 
-  pub same_end : length a ≤ i → i ≤ length b → sameBytes (drop i a) (drop i b) ≡ eqb i (length b)
-  unfolding sameBytes
+  pub same_end : length a ≤ i → i ≤ length b → same_bytes (drop i a) (drop i b) ≡ eqb i (length b)
+  unfolding same_bytes
   same_end p q =
       ⊎_elim
       (λ (e : i ≡ length b). rw (drop_of_length-le a p, drop_of_length-le b {i = i} (omega arith), eq-eqb _ _ e))

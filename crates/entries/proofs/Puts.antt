@@ -8,8 +8,8 @@ use mathlib.Core.Bool.{Bool, true, false, cond}
 use mathlib.Core.List.{List, [], ◌∷◌, ◌++◌, append_assoc}
 use lib.ListN.{length, get_or, take, drop, set, get_or-append}
 use lib.Seq.{sets, sets-eq, length-sets, get_or-set_other, drop-set-lt, drop-set-add, take-set-le, drop-append-add, take_at, get_or-append-add, length-take-le}
-use Rattle.entries.specs.Entry.{length_at, kind_at, contentAt, entry_at, entries, put_at}
-use Rattle.entries.specs.Order.{fitsAt, all_fit}
+use Rattle.entries.specs.Entry.{length_at, kind_at, content_at, entry_at, entries, put_at}
+use Rattle.entries.specs.Order.{fits_at, all_fit}
 
 -- a part that lies before or behind what is written
 set-part : (l : List ℕ) (i a s n : ℕ) → (i < s) ⊎ (s + n ≤ i) → take n (drop s (set l i a)) ≡ take n (drop s l)
@@ -23,10 +23,10 @@ sets-part l i [] s n h = refl
 sets-part l i (v ∷ vs) s n (inl h) = sets-part (set l i v) (suc i) vs s n (inl (omega arith)) ∙ set-part l i v s n (inl (omega arith))
 sets-part l i (v ∷ vs) s n (inr h) = sets-part (set l i v) (suc i) vs s n (inr (omega arith)) ∙ set-part l i v s n (inr h)
 
-pub sets-getD : (l : List ℕ) (i : ℕ) (vs : List ℕ) (j : ℕ) → (i + length vs ≤ j) ⊎ (j < i) → get_or (sets l i vs) j 0 ≡ get_or l j 0
-sets-getD l i [] j h = refl
-sets-getD l i (v ∷ vs) j (inl h) = sets-getD (set l i v) (suc i) vs j (inl (omega arith)) ∙ get_or-set_other l i j v 0 (λ e. omega arith)
-sets-getD l i (v ∷ vs) j (inr h) = sets-getD (set l i v) (suc i) vs j (inr (omega arith)) ∙ get_or-set_other l i j v 0 (λ e. omega arith)
+pub sets-get_or : (l : List ℕ) (i : ℕ) (vs : List ℕ) (j : ℕ) → (i + length vs ≤ j) ⊎ (j < i) → get_or (sets l i vs) j 0 ≡ get_or l j 0
+sets-get_or l i [] j h = refl
+sets-get_or l i (v ∷ vs) j (inl h) = sets-get_or (set l i v) (suc i) vs j (inl (omega arith)) ∙ get_or-set_other l i j v 0 (λ e. omega arith)
+sets-get_or l i (v ∷ vs) j (inr h) = sets-get_or (set l i v) (suc i) vs j (inr (omega arith)) ∙ get_or-set_other l i j v 0 (λ e. omega arith)
 
 module _ (m : List ℕ) (t k : ℕ) (c : List ℕ) (full : length m ≡ 9214) (t-in : t < 271) (short : length c ≤ 32) where
   pub put-length : length (put_at m t k c) ≡ 9214
@@ -52,8 +52,8 @@ module _ (m : List ℕ) (t k : ℕ) (c : List ℕ) (full : length m ≡ 9214) (t
   pub put-kind : kind_at (put_at m t k c) t ≡ k
   put-kind = at 1
 
-  pub put-content : contentAt (put_at m t k c) t ≡ c
-  unfolding contentAt
+  pub put-content : content_at (put_at m t k c) t ≡ c
+  unfolding content_at
   put-content =
       let rest = c ++ drop (t * 34 + suc (suc (length c))) m in
       let behind : drop (t * 34 + 2) (put_at m t k c) ≡ rest =
@@ -74,7 +74,7 @@ module _ (m : List ℕ) (t k : ℕ) (c : List ℕ) (full : length m ≡ 9214) (t
   module _ (s : ℕ) (away : (t < s) ⊎ (s < t)) where
     other : (j : ℕ) → j < 34 → get_or (put_at m t k c) (s * 34 + j) 0 ≡ get_or m (s * 34 + j) 0
     unfolding put_at
-    other j h = sets-getD m (t * 34) (length c ∷ k ∷ c) (s * 34 + j) (⊎_elim (λ l. inl (omega arith)) (λ l. inr (omega arith)) away)
+    other j h = sets-get_or m (t * 34) (length c ∷ k ∷ c) (s * 34 + j) (⊎_elim (λ l. inl (omega arith)) (λ l. inr (omega arith)) away)
 
     other-size : length_at (put_at m t k c) s ≡ length_at m s
     other-size = ap (λ (n : ℕ). get_or (put_at m t k c) n 0) (sym (add-zero (s * 34))) ∙ other 0 (omega arith) ∙ ap (λ (n : ℕ). get_or m n 0) (add-zero (s * 34))
@@ -83,8 +83,8 @@ module _ (m : List ℕ) (t k : ℕ) (c : List ℕ) (full : length m ≡ 9214) (t
     unfolding put_at
     other-part n h = sets-part m (t * 34) (length c ∷ k ∷ c) (s * 34 + 2) n (⊎_elim (λ l. inl (omega arith)) (λ l. inr (omega arith)) away)
 
-    pub other-content : contentAt (put_at m t k c) s ≡ contentAt m s
-    unfolding contentAt
+    pub other-content : content_at (put_at m t k c) s ≡ content_at m s
+    unfolding content_at
     other-content =
         ap (λ (n : ℕ). take (min n 32) (drop (s * 34 + 2) (put_at m t k c))) other-size
         ∙ other-part (min (length_at m s) 32) (omega arith)
@@ -96,8 +96,8 @@ module _ (m : List ℕ) (t k : ℕ) (c : List ℕ) (full : length m ≡ 9214) (t
     unfolding entry_at
     other-entry = rw (other-kind, other-content)
 
-    pub other_fits : fitsAt (put_at m t k c) s ≡ fitsAt m s
-    unfolding fitsAt
+    pub other_fits : fits_at (put_at m t k c) s ≡ fits_at m s
+    unfolding fits_at
     other_fits = rw (other-size, other-kind, other 2 (omega arith))
 
   -- ---- a run of other slots
@@ -122,13 +122,13 @@ entries-more m s (suc n) =
     let f : s + suc n ≡ suc s + n = omega arith in
     rw (e, f, entries-more m (suc s) n)
 
-pub fit-more : (m : List ℕ) (s n : ℕ) → all_fit m s n ≡ true → fitsAt m (s + n) ≡ true → all_fit m s (n + 1) ≡ true
+pub fit-more : (m : List ℕ) (s n : ℕ) → all_fit m s n ≡ true → fits_at m (s + n) ≡ true → all_fit m s (n + 1) ≡ true
 unfolding all_fit
-fit-more m s zero h f = rw (sym (ap (fitsAt m) (add-zero s)) ∙ f)
+fit-more m s zero h f = rw (sym (ap (fits_at m) (add-zero s)) ∙ f)
 fit-more m s (suc n) h f =
     let e : suc n + 1 ≡ suc (n + 1) = omega arith in
     let g : s + suc n ≡ suc s + n = omega arith in
-    rw e (go (fitsAt m s) h (λ p. fit-more m (suc s) n p (rw g at f)))
+    rw e (go (fits_at m s) h (λ p. fit-more m (suc s) n p (rw g at f)))
   where
     go : (t : Bool) → cond t (all_fit m (suc s) n) false ≡ true → (all_fit m (suc s) n ≡ true → all_fit m (suc s) (n + 1) ≡ true)
         → cond t (all_fit m (suc s) (n + 1)) false ≡ true

@@ -10,12 +10,12 @@ abbrev pub kind_at : List ℕ → ℕ → ℕ
 kind_at m s = get_or m (s * 34 + 1) 0
 
 -- A slot's content: as many bytes as its length says, and never more than the slot holds.
-unfoldable pub contentAt : List ℕ → ℕ → List ℕ
-contentAt m s = take (min (length_at m s) 32) (drop (s * 34 + 2) m)
+unfoldable pub content_at : List ℕ → ℕ → List ℕ
+content_at m s = take (min (length_at m s) 32) (drop (s * 34 + 2) m)
 
 -- An entry is its kind and, behind it, its content.
 unfoldable pub entry_at : List ℕ → ℕ → List ℕ
-entry_at m s = kind_at m s ∷ contentAt m s
+entry_at m s = kind_at m s ∷ content_at m s
 
 -- The entries of n slots from slot s on.
 unfoldable pub entries : List ℕ → ℕ → ℕ → List (List ℕ)
@@ -23,16 +23,16 @@ entries m s zero = []
 entries m s (suc n) = entry_at m s ∷ entries m (suc s) n
 
 -- The comparison of two entries: the same bytes from the first to the last.
-unfoldable pub sameBytes : List ℕ → List ℕ → Bool
-sameBytes [] [] = true
-sameBytes [] (y ∷ ys) = false
-sameBytes (x ∷ xs) [] = false
-sameBytes (x ∷ xs) (y ∷ ys) = cond (eqb x y) (sameBytes xs ys) false
+unfoldable pub same_bytes : List ℕ → List ℕ → Bool
+same_bytes [] [] = true
+same_bytes [] (y ∷ ys) = false
+same_bytes (x ∷ xs) [] = false
+same_bytes (x ∷ xs) (y ∷ ys) = cond (eqb x y) (same_bytes xs ys) false
 
 -- How many entries stand before the first that equals e: all of them, where none does.
 unfoldable pub seek : List ℕ → List (List ℕ) → ℕ
 seek e [] = 0
-seek e (x ∷ xs) = cond (sameBytes x e) 0 (suc (seek e xs))
+seek e (x ∷ xs) = cond (same_bytes x e) 0 (suc (seek e xs))
 
 -- An entry is among others where the search for it stops before their end.
 unfoldable pub among : List ℕ → List (List ℕ) → Bool

@@ -11,14 +11,14 @@ fits k n b =
     (cond (eqb k 3) (leb n 32) false)))
 
 -- A slot is in order: names, and nothing else, lie in the first 16.
-unfoldable pub fitsAt : List ℕ → ℕ → Bool
-fitsAt m s =
+unfoldable pub fits_at : List ℕ → ℕ → Bool
+fits_at m s =
     cond (ltb s 16) (cond (eqb (kind_at m s) 0) (fits (kind_at m s) (length_at m s) (get_or m (s * 34 + 2) 0)) false)
     (cond (eqb (kind_at m s) 0) false (fits (kind_at m s) (length_at m s) (get_or m (s * 34 + 2) 0)))
 
 unfoldable pub all_fit : List ℕ → ℕ → ℕ → Bool
 all_fit m s zero = true
-all_fit m s (suc n) = cond (fitsAt m s) (all_fit m (suc s) n) false
+all_fit m s (suc n) = cond (fits_at m s) (all_fit m (suc s) n) false
 
 -- No entry comes again behind itself.
 unfoldable pub distinct : List (List ℕ) → Bool
@@ -26,5 +26,5 @@ distinct [] = true
 distinct (e ∷ es) = cond (among e es) false (distinct es)
 
 -- The slots from s on that are in use: not too many, each in order, no two equal.
-unfoldable pub shelfSound : List ℕ → ℕ → ℕ → ℕ → Bool
-shelfSound m s n most = cond (leb n most) (cond (all_fit m s n) (distinct (entries m s n)) false) false
+unfoldable pub shelf_sound : List ℕ → ℕ → ℕ → ℕ → Bool
+shelf_sound m s n most = cond (leb n most) (cond (all_fit m s n) (distinct (entries m s n)) false) false

@@ -1,7 +1,7 @@
 // Slots of the lent bytes: an entry is read, compared, looked for and written here, for names and values alike.
 ghost use Rattle.std.specs.Prelude.{◌≡◌, ◌∷◌, ◌+◌, ◌*◌, ◌<◌, ◌≤◌, min, length};
 ghost use Rattle.std.proofs.lemmas.List.Edits.{sets};
-ghost use Rattle.entries.specs.Entry.{kind_at, contentAt, entry_at, entries, sameBytes, seek, put_at};
+ghost use Rattle.entries.specs.Entry.{kind_at, content_at, entry_at, entries, same_bytes, seek, put_at};
 
 pub const SLOT: usize = 34;
 
@@ -28,7 +28,7 @@ pub fn kind_at(table: &[u8], slot: usize) -> u8
 // The content of a slot, where it lies.
 pub fn content(table: &[u8], slot: usize) -> &[u8]
     requires { (slot < 271) × (length table.now ≡ 9214) }
-    ensures { result.now ≡ contentAt table.now slot }
+    ensures { result.now ≡ content_at table.now slot }
 {
     let at = slot * SLOT;
     let n = within_slot(table[at]);
@@ -38,7 +38,7 @@ pub fn content(table: &[u8], slot: usize) -> &[u8]
 }
 
 fn equal(a: &[u8], b: &[u8]) -> bool
-    ensures { result ≡ sameBytes a.now b.now }
+    ensures { result ≡ same_bytes a.now b.now }
 {
     let mut i = 0;
     while i < a.len() {
@@ -56,7 +56,7 @@ fn equal(a: &[u8], b: &[u8]) -> bool
 // Whether a slot holds this entry.
 fn same(table: &[u8], slot: usize, kind: u8, bytes: &[u8]) -> bool
     requires { (slot < 271) × (length table.now ≡ 9214) }
-    ensures { result ≡ sameBytes (entry_at table.now slot) (kind ∷ bytes.now) }
+    ensures { result ≡ same_bytes (entry_at table.now slot) (kind ∷ bytes.now) }
 {
     if kind_at(table, slot) != kind {
         return false;

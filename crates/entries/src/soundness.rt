@@ -1,7 +1,7 @@
 // Whether the slots in use are in order: kinds and lengths in range, no two entries equal.
 ghost use Rattle.std.specs.Prelude.{◌≡◌, ◌+◌, ◌*◌, ◌<◌, ◌≤◌, length};
 ghost use Rattle.entries.specs.Entry.{entry_at, entries, among};
-ghost use Rattle.entries.specs.Order.{fits as fits_of, fitsAt, all_fit, distinct as distinctOf, shelfSound};
+ghost use Rattle.entries.specs.Order.{fits as fits_of, fits_at, all_fit, distinct as distinctOf, shelf_sound};
 
 use crate::slots::{SLOT, content, find, kind_at};
 
@@ -31,7 +31,7 @@ fn fits(kind: u8, n: u8, first: u8) -> bool
 
 fn slot_fits(table: &[u8], slot: usize) -> bool
     requires { (slot < 271) × (length table.now ≡ 9214) }
-    ensures { result ≡ fitsAt table.now slot }
+    ensures { result ≡ fits_at table.now slot }
 {
     let at = slot * SLOT;
     let kind = table[at + 1];
@@ -91,7 +91,7 @@ fn distinct(table: &[u8], from: usize, count: usize) -> bool
 
 pub fn shelf_sound(table: &[u8], from: usize, count: usize, most: usize) -> bool
     requires { (from + most ≤ 271) × (length table.now ≡ 9214) }
-    ensures { result ≡ shelfSound table.now from count most }
+    ensures { result ≡ shelf_sound table.now from count most }
 {
     if count > most {
         return false;

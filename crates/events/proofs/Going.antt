@@ -9,7 +9,7 @@ use lib.ListN.{length}
 use lib.Seq.{sets, length-sets}
 use Rattle.rules.specs.Sheet.{What, text, embed, mark, Item, width}
 use Rattle.rules.specs.Sound.{Fits, AllFit}
-use Rattle.rules.specs.Event.{Asm, fresh, addOp, step, told, toldUnits}
+use Rattle.rules.specs.Event.{Asm, fresh, add_op, step, told, told_units}
 use Rattle.layout.specs.declared.head.Head.{Head}
 use Rattle.layout.specs.Chain.{item_at, next_at, chain, walks}
 use Rattle.layout.specs.Memory.{list_of}
@@ -23,8 +23,8 @@ use Rattle.assembling.specs.declared.assembler.Assembler.{Assembler}
 use Rattle.assembling.specs.declared.assembler.Passed.{Passed}
 use Rattle.events.specs.declared.telling.Count.{Count}
 use Rattle.events.specs.declared.walk.Measure.{Measure}
-use Rattle.assembling.specs.Steps.{wasBy, isBy, load, insertedBy, actionOp, passBy, freshAsm}
-use Rattle.events.specs.Told.{deltaOps, tellAll, telling, Telling, begun, opsIn, foundOps, keptBy, wroteBy}
+use Rattle.assembling.specs.Steps.{was_by, is_by, load, inserted_by, action_op, pass_by, fresh_asm}
+use Rattle.events.specs.Told.{delta_ops, tell_all, telling, Telling, begun, ops_in, found_ops, kept_by, wrote_by}
 use Rattle.events.specs.Walks.{Walkable, Walked, gathered}
 use Rattle.events.proofs.Tellings.{tell-append, ops_append}
 use Rattle.events.proofs.Turns.{run_of, code_of, Plain, Steps, told-append, op-told, units-told}
@@ -35,92 +35,92 @@ pub record Going (back : Bool) (limit : ℕ) (a : Assembler) (n : Count) (w w₀
   pub same : a ≡ code_of a.units t
   pub plain : Plain t.run
   pub small : Small t
-  pub tells : tellAll limit (telling n w) (deltaOps a.units (gathered back t rest)) ≡ tellAll limit (begun w₀) (deltaOps 0 (gathered back fresh whole))
-  pub units : a.units + toldUnits (gathered back t rest) ≡ toldUnits (gathered back fresh whole)
+  pub tells : tell_all limit (telling n w) (delta_ops a.units (gathered back t rest)) ≡ tell_all limit (begun w₀) (delta_ops 0 (gathered back fresh whole))
+  pub units : a.units + told_units (gathered back t rest) ≡ told_units (gathered back fresh whole)
 
-pub going_start : (back : Bool) (limit : ℕ) (w : List ℕ) (l : List Item) → Going back limit freshAsm (record { told = 0; kept = 0 }) w w l l
+pub going_start : (back : Bool) (limit : ℕ) (w : List ℕ) (l : List Item) → Going back limit fresh_asm (record { told = 0; kept = 0 }) w w l l
 going_start back limit w l = record { t = fresh; same = refl; plain = tt; small = λ k. omega arith; tells = refl; units = omega arith }
 
 pub going_step : (back : Bool) (limit : ℕ) (a : Assembler) (n n₁ n₂ : Count) (w w₁ w₂ w₀ : List ℕ) (i : Item) (l whole : List Item) (P : Passed)
     → Going back limit a n w w₀ (i ∷ l) whole → Fair i.what
-    → P ≡ passBy (wasBy back i.flags) (isBy back i.flags) i.what a
-    → telling n₁ w₁ ≡ tellAll limit (telling n w) (opsIn P.first)
-    → telling n₂ w₂ ≡ tellAll limit (telling n₁ w₁) (opsIn P.second)
+    → P ≡ pass_by (was_by back i.flags) (is_by back i.flags) i.what a
+    → telling n₁ w₁ ≡ tell_all limit (telling n w) (ops_in P.first)
+    → telling n₂ w₂ ≡ tell_all limit (telling n₁ w₁) (ops_in P.second)
     → Going back limit P.asm n₂ w₂ w₀ l whole
-going_step back limit a n n₁ n₂ w w₁ w₂ w₀ i l whole P g f eP e₁ e₂ =
-    let was = wasBy back i.flags in
-    let now = isBy back i.flags in
+going_step back limit a n n₁ n₂ w w₁ w₂ w₀ i l whole P g f e_p e₁ e₂ =
+    let was = was_by back i.flags in
+    let now = is_by back i.flags in
     let t = g.t in
     let t' = passed_by was now i.what t in
     let ops = told (step was now i.what t) t in
     let more = gathered back t' l in
-    let e : P ≡ passBy was now i.what (code_of a.units t) = eP ∙ ap (passBy was now i.what) g.same in
+    let e : P ≡ pass_by was now i.what (code_of a.units t) = e_p ∙ ap (pass_by was now i.what) g.same in
     let D : Steps P a.units ops t' = subst (λ (x : Passed). Steps x a.units ops t') (sym e) (does was now i.what a.units t g.plain g.small f) in
-    let u : P.asm.units ≡ a.units + toldUnits ops = ap (λ (x : Assembler). x.units) D.asm in
-    let rest : List DeltaOp = deltaOps P.asm.units more in
+    let u : P.asm.units ≡ a.units + told_units ops = ap (λ (x : Assembler). x.units) D.asm in
+    let rest : List DeltaOp = delta_ops P.asm.units more in
     record {
       t = t';
       same = D.asm ∙ ap (λ (x : ℕ). code_of x t') (sym u);
       plain = D.plain;
       small = small-past was now i.what t g.small f;
       tells =
-          ap (λ (s : Telling). tellAll limit s rest) (e₂ ∙ ap (λ (s : Telling). tellAll limit s (opsIn P.second)) e₁ ∙ sym (tell-append limit (telling n w) (opsIn P.first) (opsIn P.second)))
-          ∙ sym (tell-append limit (telling n w) (opsIn P.first ++ opsIn P.second) rest)
-          ∙ ap (λ (x : List DeltaOp). tellAll limit (telling n w) (x ++ rest)) D.tells
-          ∙ ap (λ (x : ℕ). tellAll limit (telling n w) (deltaOps a.units ops ++ deltaOps x more)) u
-          ∙ ap (tellAll limit (telling n w)) (sym (ops_append a.units ops more))
+          ap (λ (s : Telling). tell_all limit s rest) (e₂ ∙ ap (λ (s : Telling). tell_all limit s (ops_in P.second)) e₁ ∙ sym (tell-append limit (telling n w) (ops_in P.first) (ops_in P.second)))
+          ∙ sym (tell-append limit (telling n w) (ops_in P.first ++ ops_in P.second) rest)
+          ∙ ap (λ (x : List DeltaOp). tell_all limit (telling n w) (x ++ rest)) D.tells
+          ∙ ap (λ (x : ℕ). tell_all limit (telling n w) (delta_ops a.units ops ++ delta_ops x more)) u
+          ∙ ap (tell_all limit (telling n w)) (sym (ops_append a.units ops more))
           ∙ g.tells;
       units = omega (arith, u, told-append ops more, g.units);
     }
 
 pub record Ended (back : Bool) (limit : ℕ) (a : Assembler) (n : Count) (w w₀ : List ℕ) (whole : List Item) : Type 0 where
-  pub tells : telling n w ≡ tellAll limit (begun w₀) (deltaOps 0 (gathered back fresh whole))
-  pub units : a.units + insertedBy a.action ≡ toldUnits (gathered back fresh whole)
+  pub tells : telling n w ≡ tell_all limit (begun w₀) (delta_ops 0 (gathered back fresh whole))
+  pub units : a.units + inserted_by a.action ≡ told_units (gathered back fresh whole)
 
 pub going_end : (back : Bool) (limit : ℕ) (a : Assembler) (n n₁ : Count) (w w₁ w₀ : List ℕ) (whole : List Item) (m : MaybeOp)
-    → Going back limit a n w w₀ [] whole → m ≡ actionOp a.action a → telling n₁ w₁ ≡ tellAll limit (telling n w) (opsIn m)
+    → Going back limit a n w w₀ [] whole → m ≡ action_op a.action a → telling n₁ w₁ ≡ tell_all limit (telling n w) (ops_in m)
     → Ended back limit a n₁ w₁ w₀ whole
 going_end back limit a n n₁ w w₁ w₀ whole m g em e =
     let t = g.t in
-    let o : m ≡ actionOp (run_of t.run) (code_of a.units t) = em ∙ ap (λ (x : Assembler). actionOp x.action x) g.same in
-    let u : insertedBy a.action ≡ toldUnits (addOp t.run t.attrs t.cur) = ap (λ (x : Assembler). insertedBy x.action) g.same ∙ units-told t.run t.attrs t.cur in
+    let o : m ≡ action_op (run_of t.run) (code_of a.units t) = em ∙ ap (λ (x : Assembler). action_op x.action x) g.same in
+    let u : inserted_by a.action ≡ told_units (add_op t.run t.attrs t.cur) = ap (λ (x : Assembler). inserted_by x.action) g.same ∙ units-told t.run t.attrs t.cur in
     record {
-      tells = e ∙ ap (λ (x : MaybeOp). tellAll limit (telling n w) (opsIn x)) o ∙ ap (tellAll limit (telling n w)) (op-told a.units t g.plain) ∙ g.tells;
+      tells = e ∙ ap (λ (x : MaybeOp). tell_all limit (telling n w) (ops_in x)) o ∙ ap (tell_all limit (telling n w)) (op-told a.units t g.plain) ∙ g.tells;
       units = ap (λ (x : ℕ). a.units + x) u ∙ g.units;
     }
 
 -- ---- counts
 
-told_is : (limit : ℕ) (s : Telling) (ds : List DeltaOp) → (tellAll limit s ds).told ≡ s.told + length ds
-unfolding tellAll
+told_is : (limit : ℕ) (s : Telling) (ds : List DeltaOp) → (tell_all limit s ds).told ≡ s.told + length ds
+unfolding tell_all
 told_is limit s [] = omega arith
-told_is limit s (d ∷ ds) = omega (arith, told_is limit (record { told = s.told + 1; kept = keptBy s.told s.kept d; words = wroteBy limit s.told s.words d }) ds)
+told_is limit s (d ∷ ds) = omega (arith, told_is limit (record { told = s.told + 1; kept = kept_by s.told s.kept d; words = wrote_by limit s.told s.words d }) ds)
 
-one-op : (m : MaybeOp) → length (opsIn m) ≤ 1
-unfolding opsIn
+one-op : (m : MaybeOp) → length (ops_in m) ≤ 1
+unfolding ops_in
 one-op m = go m.op
   where
-    go : (f : Found) → length (foundOps f m.attrs) ≤ 1
+    go : (f : Found) → length (found_ops f m.attrs) ≤ 1
     go (Is o) = omega arith
     go Nothing = omega arith
 
 -- an operation at most is told
-pub told-one : (limit : ℕ) (n n₁ : Count) (w w₁ : List ℕ) (m : MaybeOp) → telling n₁ w₁ ≡ tellAll limit (telling n w) (opsIn m) → n₁.told ≤ n.told + 1
-told-one limit n n₁ w w₁ m e = omega (arith, ap (λ (s : Telling). s.told) e, told_is limit (telling n w) (opsIn m), one-op m)
+pub told-one : (limit : ℕ) (n n₁ : Count) (w w₁ : List ℕ) (m : MaybeOp) → telling n₁ w₁ ≡ tell_all limit (telling n w) (ops_in m) → n₁.told ≤ n.told + 1
+told-one limit n n₁ w w₁ m e = omega (arith, ap (λ (s : Telling). s.told) e, told_is limit (telling n w) (ops_in m), one-op m)
 
-words_long : (limit : ℕ) (s : Telling) (ds : List DeltaOp) → length (tellAll limit s ds).words ≡ length s.words
-unfolding tellAll
+words_long : (limit : ℕ) (s : Telling) (ds : List DeltaOp) → length (tell_all limit s ds).words ≡ length s.words
+unfolding tell_all
 words_long limit s [] = refl
 words_long limit s (d ∷ ds) =
-    words_long limit (record { told = s.told + 1; kept = keptBy s.told s.kept d; words = wroteBy limit s.told s.words d }) ds ∙ go (ltb s.told limit)
+    words_long limit (record { told = s.told + 1; kept = kept_by s.told s.kept d; words = wrote_by limit s.told s.words d }) ds ∙ go (ltb s.told limit)
   where
     go : (b : Bool) → length (cond b (sets s.words (s.told * 8) (words_of d)) s.words) ≡ length s.words
     go true = length-sets s.words (s.told * 8) (words_of d)
     go false = refl
 
 -- no number more, no number less
-pub told-long : (limit : ℕ) (n n₁ : Count) (w w₁ : List ℕ) (m : MaybeOp) → telling n₁ w₁ ≡ tellAll limit (telling n w) (opsIn m) → length w₁ ≡ length w
-told-long limit n n₁ w w₁ m e = ap (λ (s : Telling). length s.words) e ∙ words_long limit (telling n w) (opsIn m)
+pub told-long : (limit : ℕ) (n n₁ : Count) (w w₁ : List ℕ) (m : MaybeOp) → telling n₁ w₁ ≡ tell_all limit (telling n w) (ops_in m) → length w₁ ≡ length w
+told-long limit n n₁ w w₁ m e = ap (λ (s : Telling). length s.words) e ∙ words_long limit (telling n w) (ops_in m)
 
 -- ---- items
 
@@ -160,7 +160,7 @@ pub record Walking (back : Bool) (limit : ℕ) (m w₀ w : List ℕ) (a : Assemb
   pub long : length w ≡ length w₀
 
 pub walking_start : (back : Bool) (limit : ℕ) (h : Head) (m w : List ℕ) → Walkable h m
-    → Walking back limit m w w freshAsm (record { told = 0; kept = 0 }) h.first h.items h.first h.items
+    → Walking back limit m w w fresh_asm (record { told = 0; kept = 0 }) h.first h.items h.first h.items
 walking_start back limit h m w q = record {
   few = omega arith;
   most = q.items;
@@ -178,9 +178,9 @@ module _ (back : Bool) (limit : ℕ) (m w₀ w : List ℕ) (a : Assembler) (n : 
   wide = narrow (item_at m at).what (fit_parts 16384 k m at z g.fit).0
 
   pub walking-step : (n₁ n₂ : Count) (w₁ w₂ : List ℕ) (P : Passed)
-      → P ≡ passBy (wasBy back (item_at m at).flags) (isBy back (item_at m at).flags) (item_at m at).what a
-      → telling n₁ w₁ ≡ tellAll limit (telling n w) (opsIn P.first)
-      → telling n₂ w₂ ≡ tellAll limit (telling n₁ w₁) (opsIn P.second)
+      → P ≡ pass_by (was_by back (item_at m at).flags) (is_by back (item_at m at).flags) (item_at m at).what a
+      → telling n₁ w₁ ≡ tell_all limit (telling n w) (ops_in P.first)
+      → telling n₂ w₂ ≡ tell_all limit (telling n₁ w₁) (ops_in P.second)
       → Walking back limit m w₀ w₂ P.asm n₂ (next_at m at) (k - 1) at₀ k₀
   walking-step n₁ n₂ w₁ w₂ P e e₁ e₂ =
       let i = item_at m at in
@@ -188,7 +188,7 @@ module _ (back : Bool) (limit : ℕ) (m w₀ w : List ℕ) (a : Assembler) (n : 
       let whole = chain k₀ m at₀ in
       let f = fit_parts 16384 k m at z g.fit in
       let here : Going back limit a n w w₀ (i ∷ l) whole = subst (λ (x : List Item). Going back limit a n w w₀ x whole) (chain-step k m at z) g.going in
-      let more : load P.asm ≤ load a + width i.what = subst (λ (x : Passed). load x.asm ≤ load a + width i.what) (sym e) (pass-load (wasBy back i.flags) (isBy back i.flags) i.what a) in
+      let more : load P.asm ≤ load a + width i.what = subst (λ (x : Passed). load x.asm ≤ load a + width i.what) (sym e) (pass-load (was_by back i.flags) (is_by back i.flags) i.what a) in
       record {
         few = omega (arith, g.few);
         most = g.most;
@@ -201,8 +201,8 @@ module _ (back : Bool) (limit : ℕ) (m w₀ w : List ℕ) (a : Assembler) (n : 
       }
 
 pub walking-end : (back : Bool) (limit : ℕ) (m w₀ w : List ℕ) (a : Assembler) (n : Count) (at k at₀ k₀ : ℕ) → Walking back limit m w₀ w a n at k at₀ k₀ → k ≤ 0
-    → (mo : MaybeOp) (n₁ : Count) (w₁ : List ℕ) (r : Measure) → mo ≡ actionOp a.action a → telling n₁ w₁ ≡ tellAll limit (telling n w) (opsIn mo)
-    → r.ops ≡ n₁.kept → r.units ≡ a.units + insertedBy a.action → Walked back limit (chain k₀ m at₀) r w₀ w₁
+    → (mo : MaybeOp) (n₁ : Count) (w₁ : List ℕ) (r : Measure) → mo ≡ action_op a.action a → telling n₁ w₁ ≡ tell_all limit (telling n w) (ops_in mo)
+    → r.ops ≡ n₁.kept → r.units ≡ a.units + inserted_by a.action → Walked back limit (chain k₀ m at₀) r w₀ w₁
 unfolding chain
 walking-end back limit m w₀ w a n at (suc k) at₀ k₀ g z mo n₁ w₁ r em e eo eu = absurd (omega arith)
 walking-end back limit m w₀ w a n at zero at₀ k₀ g z mo n₁ w₁ r em e eo eu =

@@ -7,14 +7,14 @@ use mathlib.Core.List.{List, [], ◌∷◌, ◌++◌}
 use lib.Dec.{eqb}
 use borrow.Author.Tests.{lt-ltb}
 use Rattle.attrs.specs.declared.Attrs.{Attrs}
-use Rattle.sets.specs.Sets.{Slot, absent, is, Set, Env, at, nonNull, asSet}
-use Rattle.attrs.specs.Packed.{says, packed, onto, withAt, taken}
+use Rattle.sets.specs.Sets.{Slot, absent, is, Set, Env, at, non_null, as_set}
+use Rattle.attrs.specs.Packed.{says, packed, onto, with_at, taken}
 use Rattle.attrs.specs.declared.Took.{Took}
-use Rattle.attrs.proofs.Says.{packed-ext}
-use Rattle.attrs.proofs.Force.{says-in, env-in, put-packed}
+use Rattle.attrs.proofs.Says.{packed_ext}
+use Rattle.attrs.proofs.Force.{says_in, env_in, put-packed}
 use Rattle.rules.specs.Sheet.{What, text, embed, mark, width}
-use Rattle.rules.specs.Reading.{thing, setKey, insert}
-use Rattle.rules.specs.Event.{idle, Asm, addOp, Change, stays, becomes, change, markStep, changeBy, step, changed, pending, told, toldUnits}
+use Rattle.rules.specs.Reading.{thing, set_key, insert}
+use Rattle.rules.specs.Event.{idle, Asm, add_op, Change, stays, becomes, change, mark_step, change_by, step, changed, pending, told, told_units}
 use Rattle.ops.specs.declared.delta.Inserted.TheVariants.{Embed}
 use Rattle.ops.specs.declared.delta.Op.TheVariants.{Insert}
 use Rattle.ops.specs.declared.delta.DeltaOp.{DeltaOp}
@@ -22,10 +22,10 @@ use Rattle.assembling.specs.declared.runs.Action.{Action}
 use Rattle.assembling.specs.declared.runs.Action.TheVariants.{Idle, Inserting, Deleting, Retaining}
 use Rattle.assembling.specs.declared.assembler.Assembler.{Assembler}
 use Rattle.assembling.specs.declared.runs.Turn.{Turn}
-use Rattle.assembling.specs.Steps.{insertedBy, counted, load, grownBy, turnedBy, textBy, tellsToo, pendingOf, breaksBy, changedBy, pastBy, markTurn, pendingBy, passBy, goesOn, begins, found}
-use Rattle.events.specs.Told.{Ops, deltaOps, opsIn}
+use Rattle.assembling.specs.Steps.{inserted_by, counted, load, grown_by, turned_by, text_by, tells_too, pending_of, breaks_by, changed_by, past_by, mark_turn, pending_by, pass_by, goes_on, begins, found}
+use Rattle.events.specs.Told.{Ops, delta_ops, ops_in}
 use Rattle.events.proofs.Tellings.{ops_append}
-use Rattle.events.proofs.Turns.{told-append, run_of, code_of, Plain, goes_on, grows-insert, grows-delete, grows-retain, marks-turn, op-told, units-told, Steps, onRun, turns-steps}
+use Rattle.events.proofs.Turns.{told-append, run_of, code_of, Plain, goes_on_lem, grows-insert, grows-delete, grows-retain, marks_turn, op-told, units-told, Steps, on_run, turns_steps}
 
 -- ---- the assembler past an item
 
@@ -34,32 +34,32 @@ passed_by was now w t =
     record {
       run = (step was now w t).then;
       attrs = pending was now w t;
-      cur = λ k. cond now (setKey k w (t.cur k)) (t.cur k);
-      old = λ k. cond was (setKey k w (t.old k)) (t.old k);
+      cur = λ k. cond now (set_key k w (t.cur k)) (t.cur k);
+      old = λ k. cond was (set_key k w (t.old k)) (t.old k);
     }
 
 -- The promise of a step.
 abbrev Does : Bool → Bool → What → ℕ → Asm → Type 0
-Does was now w p t = Steps (passBy was now w (code_of p t)) p (told (step was now w t) t) (passed_by was now w t)
+Does was now w p t = Steps (pass_by was now w (code_of p t)) p (told (step was now w t) t) (passed_by was now w t)
 
 text-does : (was now : Bool) (s n p : ℕ) (t : Asm) → Plain t.run → Does was now (text s n) p t
-text-does false false s n p t h = turns-steps p t _ _ h (goes_on t.run)
-text-does false true s n p t h = turns-steps p t _ _ h (grows-insert s n t.run)
-text-does true false s n p t h = turns-steps p t _ _ h (grows-delete n t.run)
-text-does true true s n p t h = turns-steps p t _ _ h (grows-retain n t.run)
+text-does false false s n p t h = turns_steps p t _ _ h (goes_on_lem t.run)
+text-does false true s n p t h = turns_steps p t _ _ h (grows-insert s n t.run)
+text-does true false s n p t h = turns_steps p t _ _ h (grows-delete n t.run)
+text-does true true s n p t h = turns_steps p t _ _ h (grows-retain n t.run)
 
 embed-does : (was now : Bool) (e p : ℕ) (t : Asm) → Plain t.run → Does was now (embed e) p t
-unfolding opsIn deltaOps
-embed-does false false e p t h = turns-steps p t _ _ h (goes_on t.run)
-embed-does true false e p t h = turns-steps p t _ _ h (grows-delete 1 t.run)
-embed-does true true e p t h = turns-steps p t _ _ h (grows-retain 1 t.run)
+unfolding ops_in delta_ops
+embed-does false false e p t h = turns_steps p t _ _ h (goes_on_lem t.run)
+embed-does true false e p t h = turns_steps p t _ _ h (grows-delete 1 t.run)
+embed-does true true e p t h = turns_steps p t _ _ h (grows-retain 1 t.run)
 embed-does false true e p t h =
-    let ops = addOp t.run t.attrs t.cur in
-    let one : Ops = insert (thing e ∷ []) (asSet t.cur) ∷ [] in
-    let u : insertedBy (run_of t.run) ≡ toldUnits (ops ++ one) = omega (arith, units-told t.run t.attrs t.cur, told-append ops one) in
+    let ops = add_op t.run t.attrs t.cur in
+    let one : Ops = insert (thing e ∷ []) (as_set t.cur) ∷ [] in
+    let u : inserted_by (run_of t.run) ≡ told_units (ops ++ one) = omega (arith, units-told t.run t.attrs t.cur, told-append ops one) in
     record {
-      tells = ap (λ (x : List DeltaOp). x ++ deltaOps (p + toldUnits ops) one) (op-told p t h) ∙ sym (ops_append p ops one);
-      asm = ap (λ (x : ℕ). code_of (p + x) (onRun t idle)) u;
+      tells = ap (λ (x : List DeltaOp). x ++ delta_ops (p + told_units ops) one) (op-told p t h) ∙ sym (ops_append p ops one);
+      asm = ap (λ (x : ℕ). code_of (p + x) (on_run t idle)) u;
       plain = tt;
     }
 
@@ -91,33 +91,33 @@ change-within true true o c (is w) v hc hv = go (eqb w v) (eqb v 0)
     go false true = tt
     go false false = hv
 
-takes-it : (a : Attrs) (k v : ℕ) → k < 16 → v < 256 → withAt a k v ≡ taken (onto a (at k (is v) (says a)))
-takes-it a k v l h = rw (lt-ltb k 16 l, lt-ltb v 256 h)
+takes_it : (a : Attrs) (k v : ℕ) → k < 16 → v < 256 → with_at a k v ≡ taken (onto a (at k (is v) (says a)))
+takes_it a k v l h = rw (lt-ltb k 16 l, lt-ltb v 256 h)
 
-changed-is : (s : Set) (k : ℕ) (ch : Change) → k < 16 → Within ch → changedBy (packed s) (pendingOf ch) k ≡ packed (changed ch k s)
+changed-is : (s : Set) (k : ℕ) (ch : Change) → k < 16 → Within ch → changed_by (packed s) (pending_of ch) k ≡ packed (changed ch k s)
 changed-is s k stays l h = refl
 changed-is s k (becomes absent) l h = put-packed s k absent
-changed-is s k (becomes (is w)) l h = ap (λ (x : Took). x.attrs) (takes-it (packed s) k w l h) ∙ put-packed s k (is w)
+changed-is s k (becomes (is w)) l h = ap (λ (x : Took). x.attrs) (takes_it (packed s) k w l h) ∙ put-packed s k (is w)
 
 past_is : (e : Env) (seen : Bool) (k v : ℕ) → k < 16 → v < 256
-    → pastBy (packed (asSet e)) seen k v ≡ packed (asSet (λ j. cond seen (setKey j (mark k v) (e j)) (e j)))
+    → past_by (packed (as_set e)) seen k v ≡ packed (as_set (λ j. cond seen (set_key j (mark k v) (e j)) (e j)))
 past_is e false k v l h = refl
 past_is e true k v l h =
     rw (lt-ltb k 16 l, lt-ltb v 256 h)
-    (put-packed (asSet e) k (nonNull v) ∙ packed-ext (at k (nonNull v) (asSet e)) (asSet (λ j. cond (eqb j k) v (e j))) (λ j m. go (e j) (eqb j k)))
+    (put-packed (as_set e) k (non_null v) ∙ packed_ext (at k (non_null v) (as_set e)) (as_set (λ j. cond (eqb j k) v (e j))) (λ j m. go (e j) (eqb j k)))
   where
-    go : (x : ℕ) (b : Bool) → cond b (nonNull v) (nonNull x) ≡ nonNull (cond b v x)
+    go : (x : ℕ) (b : Bool) → cond b (non_null v) (non_null x) ≡ non_null (cond b v x)
     go x true = refl
     go x false = refl
 
-pending-is : (was now : Bool) (k v p : ℕ) (t : Asm) → k < 16 → pendingBy was now k v (code_of p t) ≡ pendingOf (changeBy was now k v t)
-pending-is was now k v p t l = rw (env-in t.old k l, env-in t.cur k l, says-in t.attrs k l)
+pending-is : (was now : Bool) (k v p : ℕ) (t : Asm) → k < 16 → pending_by was now k v (code_of p t) ≡ pending_of (change_by was now k v t)
+pending-is was now k v p t l = rw (env_in t.old k l, env_in t.cur k l, says_in t.attrs k l)
 
 mark-does : (was now : Bool) (k v p : ℕ) (t : Asm) → Plain t.run → k < 16 → v < 256 → t.cur k < 256 → Does was now (mark k v) p t
 mark-does was now k v p t h l m c =
-    let ch = changeBy was now k v t in
+    let ch = change_by was now k v t in
     let q = passed_by was now (mark k v) t in
-    let S = turns-steps p t (markTurn (pendingOf ch) now (run_of t.run)) (markStep ch now t.run) h (marks-turn ch now t.run) in
+    let S = turns_steps p t (mark_turn (pending_of ch) now (run_of t.run)) (mark_step ch now t.run) h (marks_turn ch now t.run) in
     rw (
       pending-is was now k v p t l,
       changed-is t.attrs k ch l (change-within was now (t.old k) (t.cur k) (t.attrs k) v c m),
@@ -126,7 +126,7 @@ mark-does was now k v p t h l m c =
     )
     (record {
       tells = S.tells;
-      asm = ap (λ (x : Assembler). record { action = x.action; units = x.units; attrs = packed q.attrs; current = packed (asSet q.cur); old = packed (asSet q.old) }) S.asm;
+      asm = ap (λ (x : Assembler). record { action = x.action; units = x.units; attrs = packed q.attrs; current = packed (as_set q.cur); old = packed (as_set q.old) }) S.asm;
       plain = S.plain;
     })
 
@@ -159,9 +159,9 @@ small-past was true (mark j v) t c f k = go (eqb k j)
 -- ---- how much the assembler counts
 
 abbrev Loads : Action → Turn → ℕ → Type 0
-Loads r T w = cond T.ends (insertedBy r) 0 + counted T.action ≤ counted r + w
+Loads r T w = cond T.ends (inserted_by r) 0 + counted T.action ≤ counted r + w
 
-grown-load : (was now : Bool) (w : ℕ) (r : Action) → Loads r (grownBy was now w r) w
+grown-load : (was now : Bool) (w : ℕ) (r : Action) → Loads r (grown_by was now w r) w
 grown-load false false w r = omega arith
 grown-load false true w Idle = omega arith
 grown-load false true w (Inserting n) = omega arith
@@ -176,28 +176,28 @@ grown-load true true w (Inserting n) = omega arith
 grown-load true true w (Deleting n) = omega arith
 grown-load true true w (Retaining n) = omega arith
 
-turned-load : (a : Assembler) (T : Turn) (w : ℕ) → Loads a.action T w → load (turnedBy a T).asm ≤ load a + w
+turned-load : (a : Assembler) (T : Turn) (w : ℕ) → Loads a.action T w → load (turned_by a T).asm ≤ load a + w
 turned-load a T w h = go T.ends h
   where
-    go : (b : Bool) → cond b (insertedBy a.action) 0 + counted T.action ≤ counted a.action + w → cond b (a.units + insertedBy a.action) a.units + counted T.action ≤ (a.units + counted a.action) + w
+    go : (b : Bool) → cond b (inserted_by a.action) 0 + counted T.action ≤ counted a.action + w → cond b (a.units + inserted_by a.action) a.units + counted T.action ≤ (a.units + counted a.action) + w
     go true h = omega arith
     go false h = omega arith
 
-break-load : (r : Action) (b : Bool) → Loads r (cond b (begins Idle) (goesOn r)) 0
+break-load : (r : Action) (b : Bool) → Loads r (cond b (begins Idle) (goes_on r)) 0
 break-load Idle true = omega arith
 break-load (Inserting n) true = omega arith
 break-load (Deleting n) true = omega arith
 break-load (Retaining n) true = omega arith
 break-load r false = omega arith
 
-text-load : (was now : Bool) (n : ℕ) (a : Assembler) → load (textBy was now n a).asm ≤ load a + n
-text-load was now n a = turned-load a (grownBy was now n a.action) n (grown-load was now n a.action)
+text-load : (was now : Bool) (n : ℕ) (a : Assembler) → load (text_by was now n a).asm ≤ load a + n
+text-load was now n a = turned-load a (grown_by was now n a.action) n (grown-load was now n a.action)
 
-pub pass-load : (was now : Bool) (w : What) (a : Assembler) → load (passBy was now w a).asm ≤ load a + width w
+pub pass-load : (was now : Bool) (w : What) (a : Assembler) → load (pass_by was now w a).asm ≤ load a + width w
 pass-load was now (text s n) a = text-load was now n a
 pass-load was now (embed e) a = go (not was && now)
   where
-    go : (b : Bool) → load (cond b (tellsToo (found (Insert (Embed e)) a.current) (turnedBy a (begins Idle))) (textBy was now 1 a)).asm ≤ load a + 1
+    go : (b : Bool) → load (cond b (tells_too (found (Insert (Embed e)) a.current) (turned_by a (begins Idle))) (text_by was now 1 a)).asm ≤ load a + 1
     go true = omega (arith, turned-load a (begins Idle) 0 (break-load a.action true))
     go false = text-load was now 1 a
-pass-load was now (mark k v) a = turned-load a (markTurn (pendingBy was now k v a) now a.action) 0 (break-load a.action (breaksBy (pendingBy was now k v a) now a.action))
+pass-load was now (mark k v) a = turned-load a (mark_turn (pending_by was now k v a) now a.action) 0 (break-load a.action (breaks_by (pending_by was now k v a) now a.action))

@@ -1,9 +1,9 @@
 -- What an event call gives: its answer, and what it writes at the front of the lent numbers and units.
 use Rattle.std.specs.Prelude.{ℕ, ◌+◌, ◌*◌, Bool, cond, ◌&&◌, List, [], ◌++◌, leb, length, drop}
 use Rattle.rules.specs.Reading.{Seen}
-use Rattle.rules.specs.Event.{event, toldUnits}
+use Rattle.rules.specs.Event.{event, told_units}
 use Rattle.layout.specs.declared.head.Head.{Head}
-use Rattle.layout.specs.Memory.{list_of, soundOf}
+use Rattle.layout.specs.Memory.{list_of, sound_of}
 use Rattle.events.specs.declared.event.EventAnswer.{EventAnswer}
 use Rattle.events.specs.Told.{Ops, encoded, texts}
 
@@ -21,18 +21,18 @@ refused n = record { answer = refusal n; words = []; units = [] }
 
 -- All operations, eight numbers to each, and the units of their texts.
 abbrev pub gives : List ℕ → Ops → Given
-gives u ops = record { answer = record { refusal = 0; ops = length ops; units = toldUnits ops }; words = encoded ops; units = texts u ops }
+gives u ops = record { answer = record { refusal = 0; ops = length ops; units = told_units ops }; words = encoded ops; units = texts u ops }
 
-abbrev pub fitsIn : ℕ → ℕ → Ops → Bool
-fitsIn words units ops = leb (length ops * 8) words && leb (toldUnits ops) units
+abbrev pub fits_in : ℕ → ℕ → Ops → Bool
+fits_in words units ops = leb (length ops * 8) words && leb (told_units ops) units
 
 -- Refusal 9 (BROKEN), exactly when the sheet is not sound; 8 (OUT), exactly when a lent buffer is too short; else the whole event.
 unfoldable pub given : Seen → Seen → Head → List ℕ → List ℕ → ℕ → ℕ → Given
 given was now h m u words units =
-    cond (soundOf h m u)
-    (cond (fitsIn words units (event was now (list_of h m))) (gives u (event was now (list_of h m))) (refused 8))
+    cond (sound_of h m u)
+    (cond (fits_in words units (event was now (list_of h m))) (gives u (event was now (list_of h m))) (refused 8))
     (refused 9)
 
 -- What is written stands at the front; the rest of the buffer is as it was.
-abbrev pub atFront : List ℕ → List ℕ → List ℕ
-atFront xs w = xs ++ drop (length xs) w
+abbrev pub at_front : List ℕ → List ℕ → List ℕ
+at_front xs w = xs ++ drop (length xs) w

@@ -1,7 +1,7 @@
 // The event of the current transaction, into lent numbers and lent units of any length.
 ghost use Rattle.std.specs.Prelude.{◌≡◌, length};
 ghost use Rattle.rules.specs.Reading.{before, live};
-ghost use Rattle.events.specs.Given.{refusal, given, atFront};
+ghost use Rattle.events.specs.Given.{refusal, given, at_front};
 
 use crate::fill::fill;
 use crate::walk::walk;
@@ -29,8 +29,8 @@ fn refuse(n: u32) -> EventAnswer
 // Measured first, so that nothing is written where it does not fit.
 pub fn event(h: Head, items: &[u64], units: &[u16], ops: &mut [u32], out: &mut [u16]) -> EventAnswer
     ensures answer { result ≡ (given before live h items.now units.now (length ops.old) (length out.old)).answer }
-    ensures words { ops.new ≡ atFront (given before live h items.now units.now (length ops.old) (length out.old)).words ops.old }
-    ensures texts { out.new ≡ atFront (given before live h items.now units.now (length ops.old) (length out.old)).units out.old }
+    ensures words { ops.new ≡ at_front (given before live h items.now units.now (length ops.old) (length out.old)).words ops.old }
+    ensures texts { out.new ≡ at_front (given before live h items.now units.now (length ops.old) (length out.old)).units out.old }
 {
     if !sound(h, items, units) {
         return refuse(9);

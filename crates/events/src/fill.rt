@@ -1,11 +1,11 @@
 // The units that an event inserts, one text after the other.
 ghost use Rattle.std.specs.Prelude.{◌≡◌, ◌+◌, ◌≤◌, length};
 ghost use Rattle.std.proofs.lemmas.List.Edits.{sets};
-ghost use Rattle.rules.specs.Reading.{unitsOf};
-ghost use Rattle.layout.specs.Word.{whatOf};
+ghost use Rattle.rules.specs.Reading.{units_of};
+ghost use Rattle.layout.specs.Word.{what_of};
 ghost use Rattle.layout.specs.Memory.{list_of};
-ghost use Rattle.events.specs.Told.{unitsFor};
-ghost use Rattle.events.specs.Walks.{Walkable, pieceBy, givenBy};
+ghost use Rattle.events.specs.Told.{units_for};
+ghost use Rattle.events.specs.Walks.{Walkable, piece_by, given_by};
 
 use assembling::runs::{Sight, seen_by};
 use layout::head::Head;
@@ -20,7 +20,7 @@ pub struct Piece {
 
 // The text that an item gives anew.
 fn new_text(s: Sight, c: Content) -> Piece
-    ensures { result ≡ pieceBy s.was s.is (whatOf c) }
+    ensures { result ≡ piece_by s.was s.is (what_of c) }
 {
     if s.was {
         return Piece { start: 0, len: 0 };
@@ -38,7 +38,7 @@ fn new_text(s: Sight, c: Content) -> Piece
 fn copy(units: &[u16], start: usize, len: usize, out: &mut [u16], at: usize)
     requires len_in_bounds { start + len ≤ length units.now }
     requires len_in_bounds_2 { at + len ≤ length out.old }
-    ensures { out.new ≡ sets out.old at (unitsFor units.now (unitsOf start len)) }
+    ensures { out.new ≡ sets out.old at (units_for units.now (units_of start len)) }
 {
     let mut j = 0;
     while j < len {
@@ -50,8 +50,8 @@ fn copy(units: &[u16], start: usize, len: usize, out: &mut [u16], at: usize)
 pub(crate) fn fill(h: Head, items: &[u64], units: &[u16], back: bool, out: &mut [u16])
     requires walkable { Walkable h items.now }
     requires units_in_bounds { h.units ≤ length units.now }
-    requires in_bounds { length (unitsFor units.now (givenBy back (list_of h items.now))) ≤ length out.old }
-    ensures { out.new ≡ sets out.old 0 (unitsFor units.now (givenBy back (list_of h items.now))) }
+    requires in_bounds { length (units_for units.now (given_by back (list_of h items.now))) ≤ length out.old }
+    ensures { out.new ≡ sets out.old 0 (units_for units.now (given_by back (list_of h items.now))) }
 {
     let mut n = 0;
     let mut at = h.first;

@@ -1,6 +1,6 @@
 // Operations told one after the other: counted all, written while fewer than a limit are.
 ghost use Rattle.std.specs.Prelude.{◌≡◌, ◌+◌, ◌*◌, ◌<◌, ◌≤◌, length};
-ghost use Rattle.events.specs.Told.{plainKind, keptBy, wroteBy, telling, tellAll, opsIn};
+ghost use Rattle.events.specs.Told.{plain_kind, kept_by, wrote_by, telling, tell_all, ops_in};
 
 use attrs::Attrs;
 use encoding::{Found, MaybeOp, write_op};
@@ -14,7 +14,7 @@ pub struct Count {
 }
 
 fn plain(op: Op, attrs: Attrs) -> bool
-    ensures { result ≡ plainKind op attrs }
+    ensures { result ≡ plain_kind op attrs }
 {
     match op {
         Op::Insert(_) => false,
@@ -25,7 +25,7 @@ fn plain(op: Op, attrs: Attrs) -> bool
 
 fn kept(n: Count, d: DeltaOp) -> u32
     requires { n.told < 4294967295 }
-    ensures { result ≡ keptBy n.told n.kept d }
+    ensures { result ≡ kept_by n.told n.kept d }
 {
     let op = d.op;
     let attrs = d.attrs;
@@ -37,7 +37,7 @@ fn kept(n: Count, d: DeltaOp) -> u32
 
 fn write(ops: &mut [u32], told: u32, limit: u32, d: DeltaOp)
     requires { limit * 8 ≤ length ops.old }
-    ensures { ops.new ≡ wroteBy limit told ops.old d }
+    ensures { ops.new ≡ wrote_by limit told ops.old d }
 {
     if told < limit {
         write_op(ops, told, d);
@@ -48,7 +48,7 @@ fn write(ops: &mut [u32], told: u32, limit: u32, d: DeltaOp)
 pub(crate) fn tell(ops: &mut [u32], n: Count, limit: u32, m: MaybeOp) -> Count
     requires limit_in_bounds { limit * 8 ≤ length ops.old }
     requires told_bound { n.told < 4294967295 }
-    ensures { telling result ops.new ≡ tellAll limit (telling n ops.old) (opsIn m) }
+    ensures { telling result ops.new ≡ tell_all limit (telling n ops.old) (ops_in m) }
 {
     let found = m.op;
     let attrs = m.attrs;

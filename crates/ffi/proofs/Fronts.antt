@@ -6,9 +6,9 @@ use mathlib.Core.Path.{◌≡◌, refl, ap, ◌∙◌}
 use mathlib.Core.List.{List, ◌++◌}
 use lib.ListN.{length, get_or, set, drop, drop_of_length-le}
 use lib.Seq.{sets, sets-eq, drop-cons}
-use Rattle.events.specs.Given.{atFront}
+use Rattle.events.specs.Given.{at_front}
 
-pub front-is : (vs w : List ℕ) → length vs ≤ length w → sets w 0 vs ≡ atFront vs w
+pub front-is : (vs w : List ℕ) → length vs ≤ length w → sets w 0 vs ≡ at_front vs w
 front-is vs w l =
     let e : 0 + length vs ≡ length vs = omega arith in
     sets-eq vs w 0 (omega (arith, e)) ∙ ap (λ (n : ℕ). vs ++ drop n w) e

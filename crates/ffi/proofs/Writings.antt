@@ -9,25 +9,25 @@ use lib.Seq.{sets, length-sets}
 use Rattle.cursors.specs.declared.run.Run.{Run}
 use Rattle.cursors.specs.declared.cursor.Spot.{Spot}
 use Rattle.cursors.specs.declared.cursor.Cursor.{Cursor}
-use Rattle.cursors.specs.Cursors.{recordsAt, Stands, one, Next}
+use Rattle.cursors.specs.Cursors.{records_at, Stands, one, Next}
 use Rattle.encoding.specs.Words.{words_of}
 use Rattle.events.proofs.Tellings.{sets-append}
-use Rattle.ffi.specs.Answers.{runOp, runsWords}
+use Rattle.ffi.specs.Answers.{run_op, runs_words}
 
 module _ (m : List ℕ) (j : Bool) (n : ℕ) (w₀ : List ℕ) (s₀ : Spot) where
-  abbrev pub toWrite : List ℕ
-  toWrite = sets w₀ 0 (runsWords (take n (recordsAt j m s₀)))
+  abbrev pub to_write : List ℕ
+  to_write = sets w₀ 0 (runs_words (take n (records_at j m s₀)))
 
   -- After i runs: what is left to write, over what is written, is what there was to write.
   pub record Writing (w : List ℕ) (s : Spot) (i : ℕ) : Type 0 where
     pub at : i ≤ n
     pub stands : Stands m s
     pub room : i + s.todo ≤ s₀.todo
-    pub enough : n - i ≤ length (recordsAt j m s)
+    pub enough : n - i ≤ length (records_at j m s)
     pub long : length w ≡ length w₀
-    pub whole : sets w (i * 8) (runsWords (take (n - i) (recordsAt j m s))) ≡ toWrite
+    pub whole : sets w (i * 8) (runs_words (take (n - i) (records_at j m s))) ≡ to_write
 
-  pub writing_start : Stands m s₀ → n ≤ length (recordsAt j m s₀) → Writing w₀ s₀ 0
+  pub writing_start : Stands m s₀ → n ≤ length (records_at j m s₀) → Writing w₀ s₀ 0
   writing_start st l =
       let e : n - 0 ≡ n = omega arith in
       record {
@@ -36,7 +36,7 @@ module _ (m : List ℕ) (j : Bool) (n : ℕ) (w₀ : List ℕ) (s₀ : Spot) whe
         room = omega arith;
         enough = omega (arith, l);
         long = refl;
-        whole = ap (λ (k : ℕ). sets w₀ 0 (runsWords (take k (recordsAt j m s₀)))) e;
+        whole = ap (λ (k : ℕ). sets w₀ 0 (runs_words (take k (records_at j m s₀)))) e;
       }
 
   module _ (w : List ℕ) (c r : Cursor) (i : ℕ) (g : Writing w c.spot i) (l : i < n) (x : Next j m c r) where
@@ -46,36 +46,36 @@ module _ (m : List ℕ) (j : Bool) (n : ℕ) (w₀ : List ℕ) (s₀ : Spot) whe
         go : (b : Bool) → r.found ≡ b → r.found ≡ true
         go true e = e
         go false e =
-            let q : recordsAt j m c.spot ≡ [] = x.runs ∙ ap (λ (b : Bool). cond b (r.run ∷ recordsAt j m r.spot) []) e in
+            let q : records_at j m c.spot ≡ [] = x.runs ∙ ap (λ (b : Bool). cond b (r.run ∷ records_at j m r.spot) []) e in
             absurd (omega (arith, g.enough, l, ap length q))
 
-    here : recordsAt j m c.spot ≡ r.run ∷ recordsAt j m r.spot
-    here = x.runs ∙ ap (λ (b : Bool). cond b (r.run ∷ recordsAt j m r.spot) []) found_here
+    here : records_at j m c.spot ≡ r.run ∷ records_at j m r.spot
+    here = x.runs ∙ ap (λ (b : Bool). cond b (r.run ∷ records_at j m r.spot) []) found_here
 
     pub fewer : (i + 1) + r.spot.todo ≤ s₀.todo
     fewer = omega (arith, g.room, x.fewer, ap one found_here)
 
-    pub writing-next : (v : List ℕ) → v ≡ sets w (i * 8) (words_of (runOp r.run)) → Writing v r.spot (i + 1)
+    pub writing-next : (v : List ℕ) → v ≡ sets w (i * 8) (words_of (run_op r.run)) → Writing v r.spot (i + 1)
     writing-next v is =
         let e : n - i ≡ suc (n - (i + 1)) = omega (arith, l) in
         let f : (i + 1) * 8 ≡ i * 8 + 8 = omega arith in
-        let later = runsWords (take (n - (i + 1)) (recordsAt j m r.spot)) in
+        let later = runs_words (take (n - (i + 1)) (records_at j m r.spot)) in
         record {
           at = omega (arith, l);
           stands = x.stands;
           room = fewer;
           enough = omega (arith, g.enough, ap length here);
-          long = ap length is ∙ length-sets w (i * 8) (words_of (runOp r.run)) ∙ g.long;
+          long = ap length is ∙ length-sets w (i * 8) (words_of (run_op r.run)) ∙ g.long;
           whole =
               ap (λ (y : List ℕ). sets y ((i + 1) * 8) later) is
-              ∙ ap (λ (k : ℕ). sets (sets w (i * 8) (words_of (runOp r.run))) k later) f
-              ∙ sym (sets-append w (i * 8) (words_of (runOp r.run)) later)
-              ∙ ap (λ (k : ℕ). sets w (i * 8) (runsWords (take k (r.run ∷ recordsAt j m r.spot)))) (sym e)
-              ∙ ap (λ (rs : List Run). sets w (i * 8) (runsWords (take (n - i) rs))) (sym here)
+              ∙ ap (λ (k : ℕ). sets (sets w (i * 8) (words_of (run_op r.run))) k later) f
+              ∙ sym (sets-append w (i * 8) (words_of (run_op r.run)) later)
+              ∙ ap (λ (k : ℕ). sets w (i * 8) (runs_words (take k (r.run ∷ records_at j m r.spot)))) (sym e)
+              ∙ ap (λ (rs : List Run). sets w (i * 8) (runs_words (take (n - i) rs))) (sym here)
               ∙ g.whole;
         }
 
-  pub writing-end : (w : List ℕ) (s : Spot) (i : ℕ) → Writing w s i → n ≤ i → w ≡ toWrite
+  pub writing-end : (w : List ℕ) (s : Spot) (i : ℕ) → Writing w s i → n ≤ i → w ≡ to_write
   writing-end w s i g l =
       let e : n - i ≡ 0 = omega (arith, l) in
-      ap (λ (k : ℕ). sets w (i * 8) (runsWords (take k (recordsAt j m s)))) (sym e) ∙ g.whole
+      ap (λ (k : ℕ). sets w (i * 8) (runs_words (take k (records_at j m s)))) (sym e) ∙ g.whole

@@ -7,41 +7,41 @@ use Rattle.runs.specs.Answers.{Said}
 use Rattle.ops.specs.declared.delta.Inserted.TheVariants.{Text, Embed}
 use Rattle.ops.specs.declared.delta.Op.TheVariants.{Insert}
 use Rattle.ops.specs.declared.delta.DeltaOp.{DeltaOp}
-use Rattle.encoding.specs.Words.{words_of, allWords}
+use Rattle.encoding.specs.Words.{words_of, all_words}
 use Rattle.events.specs.declared.event.EventAnswer.{EventAnswer}
-use Rattle.events.specs.Given.{atFront}
+use Rattle.events.specs.Given.{at_front}
 use Rattle.lookup.specs.declared.Shown.{Shown}
 use Rattle.lookup.specs.declared.Shown.TheVariants.{Nothing, Bool as IsBool, Int as IsInt, String as IsString}
 
-abbrev pub lengthIn : ℕ → ℕ → Length
-lengthIn r n = record { refusal = r; len = n }
+abbrev pub length_in : ℕ → ℕ → Length
+length_in r n = record { refusal = r; len = n }
 
-abbrev pub countIn : ℕ → ℕ → Count
-countIn r n = record { refusal = r; count = n }
+abbrev pub count_in : ℕ → ℕ → Count
+count_in r n = record { refusal = r; count = n }
 
-abbrev pub eventIn : ℕ → List ℕ → EventAnswer
-eventIn r w = record { refusal = r; ops = get_or w 0 0; units = get_or w 1 0 }
+abbrev pub event_in : ℕ → List ℕ → EventAnswer
+event_in r w = record { refusal = r; ops = get_or w 0 0; units = get_or w 1 0 }
 
 -- A run is an Inserted of its visible units, or of its embed, with what is in force on it.
-abbrev pub runOp : Run → DeltaOp
-runOp r = record { op = Insert (cond r.embed (Embed r.number) (Text r.start r.len)); attrs = r.attrs }
+abbrev pub run_op : Run → DeltaOp
+run_op r = record { op = Insert (cond r.embed (Embed r.number) (Text r.start r.len)); attrs = r.attrs }
 
 -- The eight numbers of a run that was asked for by its number; all 0 where there is none.
-unfoldable pub saidWords : Said → List ℕ
-saidWords s = cond s.found (words_of (runOp s.run)) (0 ∷ 0 ∷ 0 ∷ 0 ∷ 0 ∷ 0 ∷ 0 ∷ 0 ∷ [])
+unfoldable pub said_words : Said → List ℕ
+said_words s = cond s.found (words_of (run_op s.run)) (0 ∷ 0 ∷ 0 ∷ 0 ∷ 0 ∷ 0 ∷ 0 ∷ 0 ∷ [])
 
 -- The numbers of runs, one after the other.
-abbrev pub runsWords : List Run → List ℕ
-runsWords rs = allWords (map runOp rs)
+abbrev pub runs_words : List Run → List ℕ
+runs_words rs = all_words (map run_op rs)
 
 -- ---- the table
 
 -- The number of each case of a value ..
-abbrev pub kindIn : Shown → ℕ
-kindIn Nothing = 0
-kindIn (IsBool b) = 1
-kindIn (IsInt z) = 2
-kindIn IsString = 3
+abbrev pub kind_in : Shown → ℕ
+kind_in Nothing = 0
+kind_in (IsBool b) = 1
+kind_in (IsInt z) = 2
+kind_in IsString = 3
 
 -- .. and what is beside it.
 abbrev pub number_in : Shown → ℤ
@@ -52,5 +52,5 @@ number_in IsString = pos 0
 
 -- Bytes that are shown stand at the front of a lent slice; 8, and nothing written, where it is too short for them.
 pub record ShownIn (bytes before after : List ℕ) (r : Count) : Type 0 where
-  pub answers : r ≡ cond (leb (length bytes) (length before)) (countIn 0 (length bytes)) (countIn 8 0)
-  pub leaves : after ≡ atFront (take r.count bytes) before
+  pub answers : r ≡ cond (leb (length bytes) (length before)) (count_in 0 (length bytes)) (count_in 8 0)
+  pub leaves : after ≡ at_front (take r.count bytes) before

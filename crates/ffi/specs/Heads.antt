@@ -13,12 +13,12 @@ abbrev pub head_of : List ℕ → Head
 head_of w = record { first = get_or w 0 0; items = get_or w 1 0; units = get_or w 2 0 }
 
 -- A table's head in two: how many names and values there are.
-abbrev pub tableHeadOf : List ℕ → TableHead
-tableHeadOf w = record { names = get_or w 0 0; values = get_or w 1 0 }
+abbrev pub table_head_of : List ℕ → TableHead
+table_head_of w = record { names = get_or w 0 0; values = get_or w 1 0 }
 
 -- A set from its key mask and its sixteen values.
-abbrev pub setOf : ℕ → List ℕ → Attrs
-setOf m v = record { mask = m; values = v }
+abbrev pub set_of : ℕ → List ℕ → Attrs
+set_of m v = record { mask = m; values = v }
 
 -- What is answered: the refusal, and the head's numbers.
 abbrev pub answer_in : ℕ → List ℕ → Answer
@@ -29,5 +29,5 @@ unfoldable pub left : ℕ → List ℕ → List ℕ → List ℕ → Carried
 left r w m u = leaving (answer_in r w) m u
 
 -- What an asking answers: the refusal, the number asked for, and the head's numbers.
-abbrev pub askedIn : ℕ → ℕ → List ℕ → Asked
-askedIn r n w = record { refusal = r; number = n; head = tableHeadOf w }
+abbrev pub asked_in : ℕ → ℕ → List ℕ → Asked
+asked_in r n w = record { refusal = r; number = n; head = table_head_of w }

@@ -1,16 +1,16 @@
 // The calls that change a sheet: the head's numbers and the buffers are lent.
 ghost use Rattle.std.specs.Prelude.{◌≡◌};
 ghost use Rattle.attrs.specs.Packed.{says};
-ghost use Rattle.rules.specs.Calls.{beginNow, insertText, insertTextWith, insertEmbed, insertEmbedWith, formatRange, removeRange};
+ghost use Rattle.rules.specs.Calls.{begin_now, insert_text, insert_text_with, insert_embed, insert_embed_with, format_range, remove_range};
 ghost use Rattle.layout.specs.Memory.{carry};
 ghost use Rattle.items.specs.Calls.{answer_of};
-ghost use Rattle.ffi.specs.Heads.{head_of, setOf, answer_in, left};
+ghost use Rattle.ffi.specs.Heads.{head_of, set_of, answer_in, left};
 
 use crate::heads::{answered, head_of, set_of};
 
 #[unsafe(no_mangle)]
 pub extern "C" fn indovalump_begin(head: &mut [u32; 3], items: &mut [u64], units: &[u16]) -> u32
-    ensures { (answer_in result head.new ≡ answer_of (carry beginNow (head_of head.old) items.old units.now)) × (items.new ≡ (carry beginNow (head_of head.old) items.old units.now).words) }
+    ensures { (answer_in result head.new ≡ answer_of (carry begin_now (head_of head.old) items.old units.now)) × (items.new ≡ (carry begin_now (head_of head.old) items.old units.now).words) }
 {
     let h = head_of(head);
     answered(head, items::begin(h, items, units))
@@ -24,7 +24,7 @@ pub extern "C" fn indovalump_insert(
     index: u32,
     text: &[u16],
 ) -> u32
-    ensures { left result head.new items.new units.new ≡ carry (insertText index text.now) (head_of head.old) items.old units.old }
+    ensures { left result head.new items.new units.new ≡ carry (insert_text index text.now) (head_of head.old) items.old units.old }
 {
     let h = head_of(head);
     answered(head, sheet::insert::insert(h, items, units, index, text))
@@ -40,7 +40,7 @@ pub extern "C" fn indovalump_insert_with_attributes(
     mask: u16,
     values: &[u8; 16],
 ) -> u32
-    ensures { left result head.new items.new units.new ≡ carry (insertTextWith index text.now (says (setOf mask values.now))) (head_of head.old) items.old units.old }
+    ensures { left result head.new items.new units.new ≡ carry (insert_text_with index text.now (says (set_of mask values.now))) (head_of head.old) items.old units.old }
 {
     let h = head_of(head);
     let set = set_of(mask, values);
@@ -58,7 +58,7 @@ pub extern "C" fn indovalump_insert_embed(
     index: u32,
     number: u32,
 ) -> u32
-    ensures { left result head.new items.new units.now ≡ carry (insertEmbed index number) (head_of head.old) items.old units.now }
+    ensures { left result head.new items.new units.now ≡ carry (insert_embed index number) (head_of head.old) items.old units.now }
 {
     let h = head_of(head);
     answered(
@@ -77,7 +77,7 @@ pub extern "C" fn indovalump_insert_embed_with_attributes(
     mask: u16,
     values: &[u8; 16],
 ) -> u32
-    ensures { left result head.new items.new units.now ≡ carry (insertEmbedWith index number (says (setOf mask values.now))) (head_of head.old) items.old units.now }
+    ensures { left result head.new items.new units.now ≡ carry (insert_embed_with index number (says (set_of mask values.now))) (head_of head.old) items.old units.now }
 {
     let h = head_of(head);
     let set = set_of(mask, values);
@@ -97,7 +97,7 @@ pub extern "C" fn indovalump_format(
     mask: u16,
     values: &[u8; 16],
 ) -> u32
-    ensures { left result head.new items.new units.now ≡ carry (formatRange index len (says (setOf mask values.now))) (head_of head.old) items.old units.now }
+    ensures { left result head.new items.new units.now ≡ carry (format_range index len (says (set_of mask values.now))) (head_of head.old) items.old units.now }
 {
     let h = head_of(head);
     let set = set_of(mask, values);
@@ -112,7 +112,7 @@ pub extern "C" fn indovalump_remove_range(
     index: u32,
     len: u32,
 ) -> u32
-    ensures { left result head.new items.new units.now ≡ carry (removeRange index len) (head_of head.old) items.old units.now }
+    ensures { left result head.new items.new units.now ≡ carry (remove_range index len) (head_of head.old) items.old units.now }
 {
     let h = head_of(head);
     answered(

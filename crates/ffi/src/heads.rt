@@ -1,6 +1,6 @@
 // What is carried by value, in lent numbers.
 ghost use Rattle.std.specs.Prelude.{◌≡◌};
-ghost use Rattle.ffi.specs.Heads.{head_of, tableHeadOf, answer_in, setOf};
+ghost use Rattle.ffi.specs.Heads.{head_of, table_head_of, answer_in, set_of};
 
 use attrs::Attrs;
 use items::Answer;
@@ -27,7 +27,7 @@ pub(crate) fn answered(words: &mut [u32; 3], a: Answer) -> u32
 }
 
 pub(crate) fn set_of(mask: u16, values: &[u8; 16]) -> Attrs
-    ensures { result ≡ setOf mask values.now }
+    ensures { result ≡ set_of mask values.now }
 {
     Attrs {
         mask,
@@ -36,7 +36,7 @@ pub(crate) fn set_of(mask: u16, values: &[u8; 16]) -> Attrs
 }
 
 pub(crate) fn table_head_of(words: &[u32; 2]) -> TableHead
-    ensures { result ≡ tableHeadOf words.now }
+    ensures { result ≡ table_head_of words.now }
 {
     TableHead {
         names: words[0],

@@ -1,11 +1,11 @@
 // All runs of a sheet, as operations.
 ghost use Rattle.std.specs.Prelude.{◌≡◌, ◌*◌, ◌/◌, ◌≤◌, length, take};
 ghost use Rattle.std.proofs.lemmas.List.Edits.{sets};
-ghost use Rattle.cursors.specs.Cursors.{recordsAt, Stands};
-ghost use Rattle.runs.specs.Answers.{recordsIn, planned};
-ghost use Rattle.events.specs.Given.{atFront};
+ghost use Rattle.cursors.specs.Cursors.{records_at, Stands};
+ghost use Rattle.runs.specs.Answers.{records_in, planned};
+ghost use Rattle.events.specs.Given.{at_front};
 ghost use Rattle.ffi.specs.Heads.{head_of};
-ghost use Rattle.ffi.specs.Answers.{countIn, runsWords};
+ghost use Rattle.ffi.specs.Answers.{count_in, runs_words};
 
 use crate::heads::head_of;
 use crate::reading::run_op;
@@ -17,9 +17,9 @@ use runs::calls::plan;
 fn write_runs(items: &[u64], joined: bool, from: Cursor, n: usize, ops: &mut [u32])
     requires stands { Stands items.now from.spot }
     requires todo_bound { from.spot.todo ≤ 2048 }
-    requires n_in_bounds { n ≤ length (recordsAt joined items.now from.spot) }
+    requires n_in_bounds { n ≤ length (records_at joined items.now from.spot) }
     requires n_in_bounds_2 { n * 8 ≤ length ops.old }
-    ensures { ops.new ≡ sets ops.old 0 (runsWords (take n (recordsAt joined items.now from.spot))) }
+    ensures { ops.new ≡ sets ops.old 0 (runs_words (take n (records_at joined items.now from.spot))) }
 {
     let mut c = from;
     let mut i: u32 = 0;
@@ -41,8 +41,8 @@ pub extern "C" fn indovalump_runs(
     ops: &mut [u32],
     count: &mut usize,
 ) -> u32
-    ensures answer { countIn result count.new ≡ planned (head_of head.now) items.now units.now joined (length ops.old / 8) }
-    ensures words { ops.new ≡ atFront (runsWords (take count.new (recordsIn (head_of head.now) items.now joined))) ops.old }
+    ensures answer { count_in result count.new ≡ planned (head_of head.now) items.now units.now joined (length ops.old / 8) }
+    ensures words { ops.new ≡ at_front (runs_words (take count.new (records_in (head_of head.now) items.now joined))) ops.old }
 {
     let h = head_of(head);
     let a = plan(h, items, units, joined, ops.len() / 8);

@@ -1,12 +1,12 @@
 // The table: its head in two lent numbers, its entries in lent bytes.
 ghost use Rattle.std.specs.Prelude.{◌≡◌, ◌≤◌, length};
 ghost use Rattle.table.specs.Value.{bool as boolValue, int as intValue, string as stringValue};
-ghost use Rattle.table.specs.Sound.{freshHead, soundOf};
-ghost use Rattle.table.specs.Ask.{askName, askValue, Gives};
-ghost use Rattle.lookup.specs.Show.{shownOf, name_of, stringOf};
-ghost use Rattle.events.specs.Given.{atFront};
-ghost use Rattle.ffi.specs.Heads.{tableHeadOf, askedIn};
-ghost use Rattle.ffi.specs.Answers.{countIn, kindIn, number_in, ShownIn};
+ghost use Rattle.table.specs.Sound.{fresh_head, sound_of};
+ghost use Rattle.table.specs.Ask.{ask_name, ask_value, Gives};
+ghost use Rattle.lookup.specs.Show.{shown_of, name_of, string_of};
+ghost use Rattle.events.specs.Given.{at_front};
+ghost use Rattle.ffi.specs.Heads.{table_head_of, asked_in};
+ghost use Rattle.ffi.specs.Answers.{count_in, kind_in, number_in, ShownIn};
 
 use crate::heads::table_head_of;
 use lookup::Shown;
@@ -14,7 +14,7 @@ use table::{Asked, TableHead};
 
 #[unsafe(no_mangle)]
 pub extern "C" fn indovalump_table_fresh(head: &mut [u32; 2])
-    ensures { tableHeadOf head.new ≡ freshHead }
+    ensures { table_head_of head.new ≡ fresh_head }
 {
     let h = TableHead::fresh();
     *head = [h.names, h.values];
@@ -22,7 +22,7 @@ pub extern "C" fn indovalump_table_fresh(head: &mut [u32; 2])
 
 #[unsafe(no_mangle)]
 pub extern "C" fn indovalump_table_sound(head: &[u32; 2], table: &[u8]) -> bool
-    ensures { result ≡ soundOf (tableHeadOf head.now) table.now }
+    ensures { result ≡ sound_of (table_head_of head.now) table.now }
 {
     let h = table_head_of(head);
     table::sound(h, table)
@@ -30,7 +30,7 @@ pub extern "C" fn indovalump_table_sound(head: &[u32; 2], table: &[u8]) -> bool
 
 // Stores the head of an answer, and the number that was asked for.
 fn given(head: &mut [u32; 2], number: &mut u32, a: Asked) -> u32
-    ensures { askedIn result number.new head.new ≡ a }
+    ensures { asked_in result number.new head.new ≡ a }
 {
     let h = a.head;
     *head = [h.names, h.values];
@@ -45,7 +45,7 @@ pub extern "C" fn indovalump_ask_name(
     name: &[u8],
     number: &mut u32,
 ) -> u32
-    ensures { Gives (askName (tableHeadOf head.old) table.old name.now) (askedIn result number.new head.new) table.new }
+    ensures { Gives (ask_name (table_head_of head.old) table.old name.now) (asked_in result number.new head.new) table.new }
 {
     let h = table_head_of(head);
     given(head, number, table::ask_name(h, table, name))
@@ -58,7 +58,7 @@ pub extern "C" fn indovalump_ask_bool(
     value: bool,
     number: &mut u32,
 ) -> u32
-    ensures { Gives (askValue (tableHeadOf head.old) table.old (boolValue value)) (askedIn result number.new head.new) table.new }
+    ensures { Gives (ask_value (table_head_of head.old) table.old (boolValue value)) (asked_in result number.new head.new) table.new }
 {
     let h = table_head_of(head);
     given(head, number, table::ask_bool(h, table, value))
@@ -71,7 +71,7 @@ pub extern "C" fn indovalump_ask_int(
     value: i64,
     number: &mut u32,
 ) -> u32
-    ensures { Gives (askValue (tableHeadOf head.old) table.old (intValue value)) (askedIn result number.new head.new) table.new }
+    ensures { Gives (ask_value (table_head_of head.old) table.old (intValue value)) (asked_in result number.new head.new) table.new }
 {
     let h = table_head_of(head);
     given(head, number, table::ask_int(h, table, value))
@@ -84,7 +84,7 @@ pub extern "C" fn indovalump_ask_string(
     value: &[u8],
     number: &mut u32,
 ) -> u32
-    ensures { Gives (askValue (tableHeadOf head.old) table.old (stringValue value.now)) (askedIn result number.new head.new) table.new }
+    ensures { Gives (ask_value (table_head_of head.old) table.old (stringValue value.now)) (asked_in result number.new head.new) table.new }
 {
     let h = table_head_of(head);
     given(head, number, table::ask_string(h, table, value))
@@ -92,7 +92,7 @@ pub extern "C" fn indovalump_ask_string(
 
 fn copy_front(bytes: &[u8], out: &mut [u8])
     requires { length bytes.now ≤ length out.old }
-    ensures { out.new ≡ atFront bytes.now out.old }
+    ensures { out.new ≡ at_front bytes.now out.old }
 {
     let mut i = 0;
     while i < bytes.len() {
@@ -103,7 +103,7 @@ fn copy_front(bytes: &[u8], out: &mut [u8])
 
 // All of the bytes, or refusal 8 where they do not fit.
 fn shown(bytes: &[u8], out: &mut [u8], count: &mut usize) -> u32
-    ensures { ShownIn bytes.now out.old out.new (countIn result count.new) }
+    ensures { ShownIn bytes.now out.old out.new (count_in result count.new) }
 {
     if bytes.len() > out.len() {
         *count = 0;
@@ -123,7 +123,7 @@ pub extern "C" fn indovalump_name(
     out: &mut [u8],
     count: &mut usize,
 ) -> u32
-    ensures { ShownIn (name_of (tableHeadOf head.now) table.now n) out.old out.new (countIn result count.new) }
+    ensures { ShownIn (name_of (table_head_of head.now) table.now n) out.old out.new (count_in result count.new) }
 {
     let h = table_head_of(head);
     shown(lookup::name_bytes(h, table, n), out, count)
@@ -138,7 +138,7 @@ pub extern "C" fn indovalump_string(
     out: &mut [u8],
     count: &mut usize,
 ) -> u32
-    ensures { ShownIn (stringOf (tableHeadOf head.now) table.now v) out.old out.new (countIn result count.new) }
+    ensures { ShownIn (string_of (table_head_of head.now) table.now v) out.old out.new (count_in result count.new) }
 {
     let h = table_head_of(head);
     shown(lookup::string_bytes(h, table, v), out, count)
@@ -148,7 +148,7 @@ pub extern "C" fn indovalump_string(
 // or 0 or 1 for a bool.
 #[unsafe(no_mangle)]
 pub extern "C" fn indovalump_value(head: &[u32; 2], table: &[u8], v: u32, number: &mut i64) -> u32
-    ensures { (result ≡ kindIn (shownOf (tableHeadOf head.now) table.now v)) × (number.new ≡ number_in (shownOf (tableHeadOf head.now) table.now v)) }
+    ensures { (result ≡ kind_in (shown_of (table_head_of head.now) table.now v)) × (number.new ≡ number_in (shown_of (table_head_of head.now) table.now v)) }
 {
     let h = table_head_of(head);
     let value = lookup::value_at(h, table, v);

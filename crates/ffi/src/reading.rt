@@ -1,14 +1,14 @@
 // What is read of a sheet.
 ghost use Rattle.std.specs.Prelude.{◌≡◌, length};
-ghost use Rattle.layout.specs.Heads.{freshHead};
-ghost use Rattle.layout.specs.Memory.{soundOf};
+ghost use Rattle.layout.specs.Heads.{fresh_head};
+ghost use Rattle.layout.specs.Memory.{sound_of};
 ghost use Rattle.items.specs.Calls.{length_of};
 ghost use Rattle.ffi.specs.Heads.{head_of};
 ghost use Rattle.rules.specs.Reading.{before, live};
 ghost use Rattle.runs.specs.Answers.{counted, run_at};
 ghost use Rattle.ranges.specs.Texts.{Copied};
-ghost use Rattle.events.specs.Given.{given, atFront};
-ghost use Rattle.ffi.specs.Answers.{lengthIn, countIn, eventIn, runOp, saidWords};
+ghost use Rattle.events.specs.Given.{given, at_front};
+ghost use Rattle.ffi.specs.Answers.{length_in, count_in, event_in, run_op, said_words};
 
 use crate::heads::head_of;
 use cursors::run::Run;
@@ -20,7 +20,7 @@ use runs::calls::Found;
 // The head of a sheet that holds nothing, whatever lies in its buffers.
 #[unsafe(no_mangle)]
 pub extern "C" fn indovalump_fresh(head: &mut [u32; 3])
-    ensures { head_of head.new ≡ freshHead }
+    ensures { head_of head.new ≡ fresh_head }
 {
     let h = Head::fresh();
     *head = [h.first, h.items, h.units];
@@ -28,7 +28,7 @@ pub extern "C" fn indovalump_fresh(head: &mut [u32; 3])
 
 #[unsafe(no_mangle)]
 pub extern "C" fn indovalump_sound(head: &[u32; 3], items: &[u64], units: &[u16]) -> bool
-    ensures { result ≡ soundOf (head_of head.now) items.now units.now }
+    ensures { result ≡ sound_of (head_of head.now) items.now units.now }
 {
     let h = head_of(head);
     soundness::sound(h, items, units)
@@ -41,7 +41,7 @@ pub extern "C" fn indovalump_len(
     units: &[u16],
     len: &mut u32,
 ) -> u32
-    ensures { lengthIn result len.new ≡ length_of (head_of head.now) items.now units.now }
+    ensures { length_in result len.new ≡ length_of (head_of head.now) items.now units.now }
 {
     let h = head_of(head);
     let a = items::len(h, items, units);
@@ -57,7 +57,7 @@ pub extern "C" fn indovalump_count_runs(
     joined: bool,
     count: &mut usize,
 ) -> u32
-    ensures { countIn result count.new ≡ counted (head_of head.now) items.now units.now joined }
+    ensures { count_in result count.new ≡ counted (head_of head.now) items.now units.now joined }
 {
     let h = head_of(head);
     let a = runs::calls::count_runs(h, items, units, joined);
@@ -76,7 +76,7 @@ pub extern "C" fn indovalump_text(
     out: &mut [u16],
     count: &mut usize,
 ) -> u32
-    ensures { Copied (head_of head.now) items.now units.now index len out.old out.new (countIn result count.new) }
+    ensures { Copied (head_of head.now) items.now units.now index len out.old out.new (count_in result count.new) }
 {
     let h = head_of(head);
     let a = ranges::text_of_range(h, items, units, index, len, out);
@@ -95,9 +95,9 @@ pub extern "C" fn indovalump_event(
     texts: &mut [u16],
     counts: &mut [u32; 2],
 ) -> u32
-    ensures answer { eventIn result counts.new ≡ (given before live (head_of head.now) items.now units.now (length ops.old) (length texts.old)).answer }
-    ensures words { ops.new ≡ atFront (given before live (head_of head.now) items.now units.now (length ops.old) (length texts.old)).words ops.old }
-    ensures texts { texts.new ≡ atFront (given before live (head_of head.now) items.now units.now (length ops.old) (length texts.old)).units texts.old }
+    ensures answer { event_in result counts.new ≡ (given before live (head_of head.now) items.now units.now (length ops.old) (length texts.old)).answer }
+    ensures words { ops.new ≡ at_front (given before live (head_of head.now) items.now units.now (length ops.old) (length texts.old)).words ops.old }
+    ensures texts { texts.new ≡ at_front (given before live (head_of head.now) items.now units.now (length ops.old) (length texts.old)).units texts.old }
 {
     let h = head_of(head);
     let a = events::event::event(h, items, units, ops, texts);
@@ -107,7 +107,7 @@ pub extern "C" fn indovalump_event(
 
 // A run as an operation.
 pub(crate) fn run_op(run: Run) -> DeltaOp
-    ensures { result ≡ runOp run }
+    ensures { result ≡ run_op run }
 {
     let attrs = run.attrs;
     if run.embed {
@@ -138,7 +138,7 @@ pub extern "C" fn indovalump_run_at(
     run: &mut [u32; 8],
 ) -> u32
     ensures value { result ≡ (run_at (head_of head.now) items.now units.now joined n).refusal }
-    ensures words { run.new ≡ saidWords (run_at (head_of head.now) items.now units.now joined n) }
+    ensures words { run.new ≡ said_words (run_at (head_of head.now) items.now units.now joined n) }
 {
     let h = head_of(head);
     let a = runs::calls::run_at(h, items, units, joined, n);

@@ -3,7 +3,7 @@ ghost use Rattle.std.specs.Prelude.{◌≡◌, length};
 ghost use Rattle.encoding.specs.Words.{found_at};
 ghost use Rattle.changes.specs.Frame.{leaving};
 ghost use Rattle.ffi.specs.Heads.{head_of, left};
-ghost use Rattle.ffi.specs.Deltas.{readOne, readOps, deltaIn, carryWords};
+ghost use Rattle.ffi.specs.Deltas.{read_one, read_ops, delta_in, carry_words};
 
 use crate::heads::{answered, head_of};
 use deltas::apply::apply_delta;
@@ -21,7 +21,7 @@ pub(crate) struct ReadDelta {
 }
 
 fn read_one(words: &[u32], i: u32, read: ReadDelta) -> ReadDelta
-    ensures { result ≡ readOne (found_at words.now i) read }
+    ensures { result ≡ read_one (found_at words.now i) read }
 {
     let m = op_at(words, i);
     let found = m.op;
@@ -41,7 +41,7 @@ fn read_one(words: &[u32], i: u32, read: ReadDelta) -> ReadDelta
 }
 
 fn read_ops(words: &[u32], n: u32) -> ReadDelta
-    ensures { result ≡ readOps n words.now }
+    ensures { result ≡ read_ops n words.now }
 {
     let delta = Delta::empty();
     let mut read = ReadDelta { ok: true, delta };
@@ -54,7 +54,7 @@ fn read_ops(words: &[u32], n: u32) -> ReadDelta
 }
 
 fn read_delta(words: &[u32]) -> ReadDelta
-    ensures { result ≡ deltaIn words.now }
+    ensures { result ≡ delta_in words.now }
 {
     let delta = Delta::empty();
     let none = ReadDelta { ok: false, delta };
@@ -76,7 +76,7 @@ fn carry_words(
     scratch_items: &[u64],
     scratch_units: &[u16],
 ) -> Answer
-    ensures { leaving result items.new units.new ≡ carryWords (length scratch_items.now) (length scratch_units.now) text.now ops.now h items.old units.old }
+    ensures { leaving result items.new units.new ≡ carry_words (length scratch_items.now) (length scratch_units.now) text.now ops.now h items.old units.old }
 {
     let read = read_delta(ops);
     if read.ok {
@@ -106,7 +106,7 @@ pub extern "C" fn indovalump_apply_delta(
     scratch_items: &[u64],
     scratch_units: &[u16],
 ) -> u32
-    ensures { left result head.new items.new units.new ≡ carryWords (length scratch_items.now) (length scratch_units.now) text.now ops.now (head_of head.old) items.old units.old }
+    ensures { left result head.new items.new units.new ≡ carry_words (length scratch_items.now) (length scratch_units.now) text.now ops.now (head_of head.old) items.old units.old }
 {
     let h = head_of(head);
     answered(

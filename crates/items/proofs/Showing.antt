@@ -13,44 +13,44 @@ use Rattle.layout.specs.declared.head.Head.{Head}
 use Rattle.layout.specs.declared.word.Content.{Content}
 use Rattle.layout.specs.declared.word.Content.TheVariants.{Text}
 use Rattle.layout.specs.declared.word.Item.{Item as Unpacked}
-use Rattle.layout.specs.Word.{whatOf, unpackOf}
-use Rattle.layout.specs.Memory.{list_of, whatOk, soundOf}
+use Rattle.layout.specs.Word.{what_of, unpack_of}
+use Rattle.layout.specs.Memory.{list_of, what_ok, sound_of}
 use Rattle.items.specs.Calls.{length_of, piece_of, text_of}
 use Rattle.layout.proofs.Soundness.{piece-parts, word-parts, sound-parts}
 use Rattle.layout.proofs.Models.{sound-word}
 
 module _ (h : Head) (m u : List ℕ) where
-  pub length-broken : soundOf h m u ≡ false → record { refusal = 9; len = 0 } ≡ length_of h m u
+  pub length-broken : sound_of h m u ≡ false → record { refusal = 9; len = 0 } ≡ length_of h m u
   unfolding length_of
   length-broken e = rw e
 
-  pub length-is : (n : ℕ) → soundOf h m u ≡ true → n ≡ visible (list_of h m) → record { refusal = 0; len = n } ≡ length_of h m u
+  pub length-is : (n : ℕ) → sound_of h m u ≡ true → n ≡ visible (list_of h m) → record { refusal = 0; len = n } ≡ length_of h m u
   unfolding length_of
   length-is n e v = rw (e, v)
 
 -- ---- the text of one item
 module _ (h : Head) (m u : List ℕ) (n : ℕ) where
-  pub text-broken : soundOf h m u ≡ false → [] ≡ text_of h m u n
+  pub text-broken : sound_of h m u ≡ false → [] ≡ text_of h m u n
   unfolding text_of
   text-broken e = rw e
 
-  pub text-unused : soundOf h m u ≡ true → h.items ≤ n → [] ≡ text_of h m u n
+  pub text-unused : sound_of h m u ≡ true → h.items ≤ n → [] ≡ text_of h m u n
   unfolding text_of
   text-unused e l = rw (e, le-ltb n h.items l)
 
-  module _ (it : Unpacked) (c : Content) (e : soundOf h m u ≡ true) (l : n < h.items) (is : it ≡ unpackOf (get_or m n 0)) (holds : it.content ≡ c) where
-    content-is : (unpackOf (get_or m n 0)).content ≡ c
+  module _ (it : Unpacked) (c : Content) (e : sound_of h m u ≡ true) (l : n < h.items) (is : it ≡ unpack_of (get_or m n 0)) (holds : it.content ≡ c) where
+    content-is : (unpack_of (get_or m n 0)).content ≡ c
     content-is = ap (λ (x : Unpacked). x.content) (sym is) ∙ holds
 
-    pub text-is : text_of h m u n ≡ piece_of u (whatOf c)
+    pub text-is : text_of h m u n ≡ piece_of u (what_of c)
     unfolding text_of
     text-is = rw (e, lt-ltb n h.items l, content-is)
 
   -- a text that is used lies in the units
-  pub text-room : (it : Unpacked) (s k : ℕ) → soundOf h m u ≡ true → n < h.items → it ≡ unpackOf (get_or m n 0) → it.content ≡ Text s k → s + k ≤ length u
+  pub text-room : (it : Unpacked) (s k : ℕ) → sound_of h m u ≡ true → n < h.items → it ≡ unpack_of (get_or m n 0) → it.content ≡ Text s k → s + k ≤ length u
   text-room it s k e l is holds =
       let p = sound-parts h m u e in
-      let q : whatOk u h.units (text s k) ≡ true = rw (content-is it (Text s k) e l is holds) at (word-parts u h.units (get_or m n 0) (sound-word h m u p n l)).2 in
+      let q : what_ok u h.units (text s k) ≡ true = rw (content-is it (Text s k) e l is holds) at (word-parts u h.units (get_or m n 0) (sound-word h m u p n l)).2 in
       omega (arith, (piece-parts u h.units s k q).1, p.used, p.room)
 
 pub text-part : (u : List ℕ) (s k : ℕ) → take (s + k - s) (drop s u) ≡ piece_of u (text s k)

@@ -1,8 +1,8 @@
 // The calls that change no place in the list: begin, the length, and the text of one item.
 ghost use Rattle.std.specs.Prelude.{◌≡◌, ◌≤◌, length};
-ghost use Rattle.rules.specs.Calls.{beginNow};
+ghost use Rattle.rules.specs.Calls.{begin_now};
 ghost use Rattle.layout.specs.Memory.{carry};
-ghost use Rattle.items.specs.Calls.{answer_of, restWord, sweepTo, length_of, text_of};
+ghost use Rattle.items.specs.Calls.{answer_of, rest_word, sweep_to, length_of, text_of};
 
 use layout::head::Head;
 use layout::word::{Content, Item, pack, unpack, width};
@@ -24,7 +24,7 @@ pub struct Length {
 // By number, since the order does not matter here.
 fn drop_flags(items: &mut [u64], n: usize)
     requires { n ≤ length items.old }
-    ensures { items.new ≡ sweepTo restWord n items.old }
+    ensures { items.new ≡ sweep_to rest_word n items.old }
 {
     let mut i = 0;
     while i < n {
@@ -43,7 +43,7 @@ fn drop_flags(items: &mut [u64], n: usize)
 
 // A transaction begins: no item is added or deleted in it yet.
 pub fn begin(h: Head, items: &mut [u64], units: &[u16]) -> Answer
-    ensures { (result ≡ answer_of (carry beginNow h items.old units.now)) × (items.new ≡ (carry beginNow h items.old units.now).words) }
+    ensures { (result ≡ answer_of (carry begin_now h items.old units.now)) × (items.new ≡ (carry begin_now h items.old units.now).words) }
 {
     if !sound(h, items, units) {
         return Answer {

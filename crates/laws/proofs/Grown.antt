@@ -8,7 +8,7 @@ use native.Mathlib.Omega.{arith}
 use lib.ListN.{length}
 use Rattle.sets.specs.Sets.{keys}
 use Rattle.rules.specs.Sheet.{What, text, embed, mark, Flags, Item, dead, new, kill, begin}
-use Rattle.rules.specs.Reading.{live, before, unitsOf, glyphs, Cell, paint, cells, setKey, passKey, shown}
+use Rattle.rules.specs.Reading.{live, before, units_of, glyphs, Cell, paint, cells, set_key, pass_key, shown}
 use Rattle.rules.specs.Counts.{AllBelow}
 use Rattle.laws.proofs.Lists.{In}
 use Rattle.laws.proofs.Places.{item, cut_cells}
@@ -41,14 +41,14 @@ halves-stay : (j k m s w : ℕ) (f : Flags) (n : ℕ) (l : List Item) → n ≤ 
     → Stays j (record { num = k; what = text s w; flags = f } ∷ l) (record { num = k; what = text s n; flags = f } ∷ record { num = m; what = text (s + n) (w - n); flags = f } ∷ l)
 halves-stay j k m s w f n l h v = go (before f)
   where
-    go : (b : Bool) → cond b (paint v (unitsOf s n)) [] ++ (cond b (paint (cond b v v) (unitsOf (s + n) (w - n))) [] ++ cells before j (cond b (cond b v v) (cond b v v)) l) ≡ cond b (paint v (unitsOf s w)) [] ++ cells before j (cond b v v) l
-    go true = sym (append_assoc (paint v (unitsOf s n)) (paint v (unitsOf (s + n) (w - n))) (cells before j v l)) ∙ ap (λ (x : List Cell). x ++ cells before j v l) (sym (cut_cells v s n w h))
+    go : (b : Bool) → cond b (paint v (units_of s n)) [] ++ (cond b (paint (cond b v v) (units_of (s + n) (w - n))) [] ++ cells before j (cond b (cond b v v) (cond b v v)) l) ≡ cond b (paint v (units_of s w)) [] ++ cells before j (cond b v v) l
+    go true = sym (append_assoc (paint v (units_of s n)) (paint v (units_of (s + n) (w - n))) (cells before j v l)) ∙ ap (λ (x : List Cell). x ++ cells before j v l) (sym (cut_cells v s n w h))
     go false = refl
 
 pub grown-stays : (j : ℕ) {P C : ℕ → Type 0} {N : What → Type 0} {l l' : List Item} {m m' u u' : ℕ} → Grown P C N l m u l' m' u' → (v : ℕ) → cells before j v l' ≡ cells before j v l
 grown-stays j same v = refl
 grown-stays j (then g h) v = grown-stays j h v ∙ grown-stays j g v
-grown-stays j (under {i = i} g) v = ap (λ (x : List Cell). shown before i v ++ x) (grown-stays j g (passKey before j i v))
+grown-stays j (under {i = i} g) v = ap (λ (x : List Cell). shown before i v ++ x) (grown-stays j g (pass_key before j i v))
 grown-stays j (marked k w i p) v = refl
 grown-stays j (adds f) v = refl
 grown-stays j (kills {l = l} i h) v = kill-stays j i.num i.what i.flags.dead i.flags.added i.flags.gone l h v
@@ -94,6 +94,6 @@ begin-before j v [] = refl
 begin-before j v (i ∷ l) = go i.flags.dead (λ v. begin-before j v l)
   where
     go : (d : Bool) → ((v : ℕ) → cells before j v (begin l) ≡ cells live j v l)
-        → cond (not d || false) (paint v (glyphs i.what)) [] ++ cells before j (cond (not d || false) (setKey j i.what v) v) (begin l) ≡ cond (not d) (paint v (glyphs i.what)) [] ++ cells live j (cond (not d) (setKey j i.what v) v) l
+        → cond (not d || false) (paint v (glyphs i.what)) [] ++ cells before j (cond (not d || false) (set_key j i.what v) v) (begin l) ≡ cond (not d) (paint v (glyphs i.what)) [] ++ cells live j (cond (not d) (set_key j i.what v) v) l
     go true ih = ih v
-    go false ih = ap (λ (x : List Cell). paint v (glyphs i.what) ++ x) (ih (setKey j i.what v))
+    go false ih = ap (λ (x : List Cell). paint v (glyphs i.what) ++ x) (ih (set_key j i.what v))

@@ -6,9 +6,9 @@ use mathlib.Core.List.{List, [], ◌∷◌, ◌++◌, map}
 use lib.ListN.{length}
 use lib.Dec.{ltb}
 use borrow.Author.Tests.{ltb-true}
-use Rattle.sets.specs.Sets.{Slot, absent, is, Set, keys, bare, isAbsent, lay}
+use Rattle.sets.specs.Sets.{Slot, absent, is, Set, keys, bare, is_absent, lay}
 use Rattle.rules.specs.Sheet.{What, text, embed, mark, width}
-use Rattle.rules.specs.Reading.{Glyph, unitsOf, glyphs, Cell, paint, layCell}
+use Rattle.rules.specs.Reading.{Glyph, units_of, glyphs, Cell, paint, lay_cell}
 
 pub paint-append : (v : ℕ) (a b : List Glyph) → paint v (a ++ b) ≡ paint v a ++ paint v b
 paint-append v [] b = refl
@@ -18,7 +18,7 @@ pub length-paint : (v : ℕ) (a : List Glyph) → length (paint v a) ≡ length 
 length-paint v [] = refl
 length-paint v (g ∷ a) = ap suc (length-paint v a)
 
-pub lay-paint : (s : Slot) (v : ℕ) (a : List Glyph) → map (layCell s) (paint v a) ≡ paint (lay s v) a
+pub lay-paint : (s : Slot) (v : ℕ) (a : List Glyph) → map (lay_cell s) (paint v a) ≡ paint (lay s v) a
 lay-paint s v [] = refl
 lay-paint s v (g ∷ a) = ap (λ (l : List Cell). record { glyph = g; value = lay s v } ∷ l) (lay-paint s v a)
 
@@ -26,11 +26,11 @@ pub map-append : {A : Type 0} (f : A → A) (a b : List A) → map f (a ++ b) �
 map-append f [] b = refl
 map-append {A} f (x ∷ a) b = ap (λ (l : List A). f x ∷ l) (map-append f a b)
 
-pub lay-absent : (a : List Cell) → map (layCell absent) a ≡ a
+pub lay-absent : (a : List Cell) → map (lay_cell absent) a ≡ a
 lay-absent [] = refl
 lay-absent (x ∷ a) = ap (λ (l : List Cell). x ∷ l) (lay-absent a)
 
-pub length-units : (s n : ℕ) → length (unitsOf s n) ≡ n
+pub length-units : (s n : ℕ) → length (units_of s n) ≡ n
 length-units s zero = refl
 length-units s (suc n) = ap suc (length-units (suc s) n)
 
@@ -44,7 +44,7 @@ pub data In (j : ℕ) : List ℕ → Type 0 where
   here : {k : ℕ} {l : List ℕ} → j ≡ k → In j (k ∷ l)
   there : {k : ℕ} {l : List ℕ} → In j l → In j (k ∷ l)
 
-is-absent : (s : Slot) → isAbsent s ≡ true → s ≡ absent
+is-absent : (s : Slot) → is_absent s ≡ true → s ≡ absent
 is-absent absent e = refl
 is-absent (is v) e = absurd (false≢true e)
 
@@ -78,9 +78,9 @@ positive n b e = ltb-true 0 n (pick (ltb 0 n) b e)
     pick false false e = e
 
 pub bare-at : (j : ℕ) (ks : List ℕ) (a : Set) → In j ks → bare ks a ≡ true → a j ≡ absent
-bare-at j (k ∷ ks) a (here e) h = ap a e ∙ is-absent (a k) (and_left (isAbsent (a k)) (bare ks a) h)
-bare-at j (k ∷ ks) a (there i) h = bare-at j ks a i (and_right (isAbsent (a k)) (bare ks a) h)
+bare-at j (k ∷ ks) a (here e) h = ap a e ∙ is-absent (a k) (and_left (is_absent (a k)) (bare ks a) h)
+bare-at j (k ∷ ks) a (there i) h = bare-at j ks a i (and_right (is_absent (a k)) (bare ks a) h)
 
-pub zero-key : In 0 keys
+pub zero_key : In 0 keys
 unfolding keys
-zero-key = here refl
+zero_key = here refl

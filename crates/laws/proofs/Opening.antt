@@ -7,13 +7,13 @@ use mathlib.Core.List.{List, []}
 use lib.Dec.{eqb}
 use lib.ListN.{length}
 use borrow.Author.Tests.{eqb-true}
-use Rattle.sets.specs.Sets.{Slot, absent, is, isAbsent, Set, Env, keys, lay, differs, opened, former}
+use Rattle.sets.specs.Sets.{Slot, absent, is, is_absent, Set, Env, keys, lay, differs, opened, former}
 use Rattle.rules.specs.Sheet.{Item}
 use Rattle.rules.specs.Reading.{live, Cell, cells, force}
-use Rattle.rules.specs.Places.{Move, after, settle, marks, putMarks}
+use Rattle.rules.specs.Places.{Move, after, settle, marks, put_marks}
 use Rattle.rules.specs.Edits.{opening, settled}
 use Rattle.laws.proofs.Lists.{In}
-use Rattle.laws.proofs.Places.{Reads, reads_end, reads_then, settle-reads, settle-keeps, putMarks-reads, marks-set}
+use Rattle.laws.proofs.Places.{Reads, reads_end, reads_then, settle-reads, settle-keeps, put_marks-reads, marks-set}
 
 -- what the set and what is remembered say of the value now and the value in the old list
 pub record Inv (a r : Slot) (old now : ℕ) : Type 0 where
@@ -21,13 +21,13 @@ pub record Inv (a r : Slot) (old now : ℕ) : Type 0 where
   pub laid : now ≡ lay a old
   pub only : a ≡ absent → r ≡ absent
 
-pub differs-owed : (a : Slot) (e : ℕ) → Inv a (cond (differs a e) (is e) absent) e (lay (cond (differs a e) a absent) e)
-differs-owed absent e = record { owed = refl; laid = refl; only = λ h. refl }
-differs-owed (is w) e = go (eqb w e) refl
+pub differs_owed : (a : Slot) (e : ℕ) → Inv a (cond (differs a e) (is e) absent) e (lay (cond (differs a e) a absent) e)
+differs_owed absent e = record { owed = refl; laid = refl; only = λ h. refl }
+differs_owed (is w) e = go (eqb w e) refl
   where
     go : (b : Bool) → eqb w e ≡ b → Inv (is w) (cond (not b) (is e) absent) e (lay (cond (not b) (is w) absent) e)
     go true q = record { owed = refl; laid = sym (eqb-true w e q); only = λ h. refl }
-    go false q = record { owed = refl; laid = refl; only = λ h. absurd (false≢true (ap isAbsent h)) }
+    go false q = record { owed = refl; laid = refl; only = λ h. absurd (false≢true (ap is_absent h)) }
 
 -- What follows Settle and Open has to show x and y of the cells as they were (v in force), where now is in force and r is remembered.
 pub settled-reads : (j : ℕ) → In j keys → (a : Set) (f : Set → Move) (e : Env) (l : List Item) (m : ℕ) (x y : List Cell → List Cell)
@@ -36,12 +36,12 @@ pub settled-reads : (j : ℕ) → In j keys → (a : Set) (f : Set → Move) (e 
 settled-reads j jk a f e l m x y h =
     reads_then j (e j) e (settle a l m) (opening a f) [] cs (x cs) (y cs)
     (settle-reads j a l m (e j))
-    (reads_then j v e₁ (putMarks (opened a e₁) r q) (f (former a e₁)) [] _ (x cs) (y cs)
-    (putMarks-reads j (opened a e₁) r q v jk)
+    (reads_then j v e₁ (put_marks (opened a e₁) r q) (f (former a e₁)) [] _ (x cs) (y cs)
+    (put_marks-reads j (opened a e₁) r q v jk)
     (reads_end (settle-reads j a l m (e j)).end
     (subst (λ (z : List Cell). Reads j now (f (former a e₁) e₂ r q') (x z) (y z) (force live j v r)) (settle-reads j a l m (e j)).right
     (h v now (former a e₁) e₂ r q' (settle-keeps j a l m (e j))
-    (subst (λ (z : ℕ). Inv (a j) (former a e₁ j) v z) (sym (marks-set j keys (opened a e₁) q v jk)) (differs-owed (a j) v))))))
+    (subst (λ (z : ℕ). Inv (a j) (former a e₁ j) v z) (sym (marks-set j keys (opened a e₁) q v jk)) (differs_owed (a j) v))))))
   where
     cs : List Cell
     cs = cells live j (e j) l

@@ -9,30 +9,30 @@ use lib.Dec.{leb}
 use lib.ListN.{length, get_or, take, drop, length-take, length-drop, get_or-append, drop_of_length-le}
 use lib.Seq.{drop-drop, take-take, get_or-take, get_or-drop, drop-append-le, take-append-le}
 use borrow.Author.Tests.{leb-true, leb-false}
-use Rattle.units.specs.Surrogates.{isHigh, isLow, pairedFrom, paired, splitsPair}
+use Rattle.units.specs.Surrogates.{is_high, is_low, paired_from, paired, splits_pair}
 use Rattle.rules.specs.Sheet.{What, text, embed, mark, Item}
-use Rattle.rules.specs.Reading.{live, Glyph, unit, thing, unitsOf, glyphs, seenGlyphs}
+use Rattle.rules.specs.Reading.{live, Glyph, unit, thing, units_of, glyphs, seen_glyphs}
 use Rattle.rules.specs.Sound.{Fits, AllFit}
 use Rattle.rules.specs.Calls.{unit_at, Paired, PairedWhat, AllPaired}
 use Rattle.rules.specs.Rulings.{InWord, AllInWord, Byte}
 use Rattle.laws.proofs.Lists.{and_left, and_right, and_both}
-use Rattle.laws.proofs.Cuts.{Clean, CutOk, clean-from, clean_drop}
+use Rattle.laws.proofs.Cuts.{Clean, CutOk, clean_from, clean_drop}
 use Rattle.laws.proofs.Grown.{Grown, same, then, under, marked, adds, kills, halves, embeds, texts}
 use Rattle.laws.proofs.Sound.{grown-used, grown-fit}
 
 -- a paired text cut where no pair is split
-split_from : (b : Bool) (xs : List ℕ) (n : ℕ) → pairedFrom b xs ≡ true → suc n < length xs → (isHigh (get_or xs n 0) && isLow (get_or xs (suc n) 0)) ≡ false
-    → (pairedFrom b (take (suc n) xs) ≡ true) × (pairedFrom false (drop (suc n) xs) ≡ true)
+split_from : (b : Bool) (xs : List ℕ) (n : ℕ) → paired_from b xs ≡ true → suc n < length xs → (is_high (get_or xs n 0) && is_low (get_or xs (suc n) 0)) ≡ false
+    → (paired_from b (take (suc n) xs) ≡ true) × (paired_from false (drop (suc n) xs) ≡ true)
 split_from b [] n h l c = absurd (omega arith)
 split_from b (x ∷ []) n h l c = absurd (omega arith)
-split_from true (x ∷ y ∷ zs) zero h l c = (and_both (isLow x) true (and_left (isLow x) _ h) refl, and_right (isLow x) _ h)
-split_from false (x ∷ y ∷ zs) zero h l c = go (isHigh x) refl (and_right (not (isLow x)) _ h) c
+split_from true (x ∷ y ∷ zs) zero h l c = (and_both (is_low x) true (and_left (is_low x) _ h) refl, and_right (is_low x) _ h)
+split_from false (x ∷ y ∷ zs) zero h l c = go (is_high x) refl (and_right (not (is_low x)) _ h) c
   where
-    go : (b : Bool) → isHigh x ≡ b → pairedFrom b (y ∷ zs) ≡ true → (b && isLow y) ≡ false → ((not (isLow x) && pairedFrom (isHigh x) []) ≡ true) × (pairedFrom false (y ∷ zs) ≡ true)
-    go true e p q = absurd (false≢true (sym q ∙ and_left (isLow y) _ p))
-    go false e p q = (and_both (not (isLow x)) _ (and_left (not (isLow x)) _ h) (ap not e), p)
-split_from true (x ∷ y ∷ zs) (suc n) h l c = let r = split_from false (y ∷ zs) n (and_right (isLow x) _ h) (omega arith) c in (and_both (isLow x) _ (and_left (isLow x) _ h) r.0, r.1)
-split_from false (x ∷ y ∷ zs) (suc n) h l c = let r = split_from (isHigh x) (y ∷ zs) n (and_right (not (isLow x)) _ h) (omega arith) c in (and_both (not (isLow x)) _ (and_left (not (isLow x)) _ h) r.0, r.1)
+    go : (b : Bool) → is_high x ≡ b → paired_from b (y ∷ zs) ≡ true → (b && is_low y) ≡ false → ((not (is_low x) && paired_from (is_high x) []) ≡ true) × (paired_from false (y ∷ zs) ≡ true)
+    go true e p q = absurd (false≢true (sym q ∙ and_left (is_low y) _ p))
+    go false e p q = (and_both (not (is_low x)) _ (and_left (not (is_low x)) _ h) (ap not e), p)
+split_from true (x ∷ y ∷ zs) (suc n) h l c = let r = split_from false (y ∷ zs) n (and_right (is_low x) _ h) (omega arith) c in (and_both (is_low x) _ (and_left (is_low x) _ h) r.0, r.1)
+split_from false (x ∷ y ∷ zs) (suc n) h l c = let r = split_from (is_high x) (y ∷ zs) n (and_right (not (is_low x)) _ h) (omega arith) c in (and_both (not (is_low x)) _ (and_left (not (is_low x)) _ h) r.0, r.1)
 
 drop-take : (n w : ℕ) (us : List ℕ) → n ≤ w → drop n (take w us) ≡ take (w - n) (drop n us)
 drop-take zero w us h = rw (sub-zero w) refl
@@ -57,10 +57,10 @@ halved us s (suc n) w z h l p c = (
     at : (i : ℕ) → i < w → get_or xs i 0 ≡ get_or us (s + i) 0
     at i k = get_or-take w (drop s us) i 0 k ∙ get_or-drop s us i 0
 
-    cut : (isHigh (get_or xs n 0) && isLow (get_or xs (suc n) 0)) ≡ false
-    cut = ap (λ (u : ℕ). isHigh u && isLow (get_or xs (suc n) 0)) (at n (omega arith)) ∙ ap (λ (u : ℕ). isHigh (get_or us (s + n) 0) && isLow u) (at (suc n) h ∙ ap (λ (k : ℕ). get_or us k 0) (add-suc s n)) ∙ subst (λ (k : ℕ). splitsPair us k ≡ false) (add-suc s n) c
+    cut : (is_high (get_or xs n 0) && is_low (get_or xs (suc n) 0)) ≡ false
+    cut = ap (λ (u : ℕ). is_high u && is_low (get_or xs (suc n) 0)) (at n (omega arith)) ∙ ap (λ (u : ℕ). is_high (get_or us (s + n) 0) && is_low u) (at (suc n) h ∙ ap (λ (k : ℕ). get_or us k 0) (add-suc s n)) ∙ subst (λ (k : ℕ). splits_pair us k ≡ false) (add-suc s n) c
 
-    r : (pairedFrom false (take (suc n) xs) ≡ true) × (pairedFrom false (drop (suc n) xs) ≡ true)
+    r : (paired_from false (take (suc n) xs) ≡ true) × (paired_from false (drop (suc n) xs) ≡ true)
     r = split_from false xs n p (omega (arith, length-take w (drop s us), length-drop s us)) cut
 
 -- what a new text or embed has
@@ -108,7 +108,7 @@ Below n [] = Unit {0}
 Below n (unit p ∷ gs) = (p < n) × Below n gs
 Below n (thing e ∷ gs) = Below n gs
 
-below-units : (n s k : ℕ) (gs : List Glyph) → s + k ≤ n → Below n gs → Below n (unitsOf s k ++ gs)
+below-units : (n s k : ℕ) (gs : List Glyph) → s + k ≤ n → Below n gs → Below n (units_of s k ++ gs)
 below-units n s zero gs h b = b
 below-units n s (suc k) gs h b = (omega arith, below-units n (suc s) k gs (omega arith) b)
 
@@ -117,22 +117,22 @@ below_right n [] b h = h
 below_right n (unit p ∷ a) b h = below_right n a b h.1
 below_right n (thing e ∷ a) b h = below_right n a b h
 
-fit-below : (n : ℕ) (l : List Item) → AllFit n l → Below n (seenGlyphs l)
+fit-below : (n : ℕ) (l : List Item) → AllFit n l → Below n (seen_glyphs l)
 fit-below n [] f = tt
 fit-below n (i ∷ l) f = go (live i.flags) i.what f.1 (fit-below n l f.2)
   where
-    go : (b : Bool) (w : What) → Fits n w → Below n (seenGlyphs l) → Below n (cond b (glyphs w) [] ++ seenGlyphs l)
+    go : (b : Bool) (w : What) → Fits n w → Below n (seen_glyphs l) → Below n (cond b (glyphs w) [] ++ seen_glyphs l)
     go false w h ih = ih
-    go true (text s k) h ih = below-units n s k (seenGlyphs l) h.1 ih
+    go true (text s k) h ih = below-units n s k (seen_glyphs l) h.1 ih
     go true (embed e) h ih = ih
     go true (mark k v) h ih = ih
 
-pub clean-on : (us new : List ℕ) (l : List Item) (n : ℕ) → AllFit (length us) l → splitsPair (map (unit_at us) (seenGlyphs l)) n ≡ false → Clean (CutOk (us ++ new)) (seenGlyphs l) n
+pub clean-on : (us new : List ℕ) (l : List Item) (n : ℕ) → AllFit (length us) l → splits_pair (map (unit_at us) (seen_glyphs l)) n ≡ false → Clean (CutOk (us ++ new)) (seen_glyphs l) n
 clean-on us new l n f h a b p e k =
     let w = below_right (length us) a (unit p ∷ unit (suc p) ∷ b) (subst (Below (length us)) e (fit-below (length us) l f)) in
-    ap (λ (x : ℕ). isHigh x && isLow (get_or (us ++ new) (suc p) 0)) (get_or-append us new 0 p w.0)
-    ∙ ap (λ (x : ℕ). isHigh (get_or us p 0) && isLow x) (get_or-append us new 0 (suc p) w.1.0)
-    ∙ clean-from us (seenGlyphs l) n h a b p e k
+    ap (λ (x : ℕ). is_high x && is_low (get_or (us ++ new) (suc p) 0)) (get_or-append us new 0 p w.0)
+    ∙ ap (λ (x : ℕ). is_high (get_or us p 0) && is_low x) (get_or-append us new 0 (suc p) w.1.0)
+    ∙ clean_from us (seen_glyphs l) n h a b p e k
 
 pub clean-rest : (C : ℕ → Type 0) (gs : List Glyph) (c n : ℕ) → Clean C gs (c + n) → Clean C (drop c gs) n
 clean-rest C gs c n k = go (leb c (length gs)) refl

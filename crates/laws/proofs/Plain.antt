@@ -8,7 +8,7 @@ use lib.Dec.{eqb, leb}
 use lib.ListN.{length, take, length-append, length-take}
 use borrow.Author.Tests.{leb-true, leb-false}
 use Rattle.rules.specs.Sheet.{What, text, embed, mark, Item, dead}
-use Rattle.rules.specs.Reading.{live, Glyph, unitsOf, Cell, paint, cells, force, passKey, shown}
+use Rattle.rules.specs.Reading.{live, Glyph, units_of, Cell, paint, cells, force, pass_key, shown}
 use Rattle.rules.specs.Places.{over, split, uses, place}
 use Rattle.rules.specs.Shows.{last_or, inherited}
 use Rattle.laws.proofs.Places.{item, split-reads, length-shown, take_past}
@@ -17,24 +17,24 @@ last-paint : (v : ℕ) (gs : List Glyph) (cs : List Cell) → last_or v (paint v
 last-paint v [] cs = refl
 last-paint v (g ∷ gs) cs = last-paint v gs cs
 
-last-any : (v u : ℕ) (cs : List Cell) → 0 < length cs → last_or v cs ≡ last_or u cs
-last-any v u [] h = absurd (omega arith)
-last-any v u (c ∷ cs) h = refl
+last_any : (v u : ℕ) (cs : List Cell) → 0 < length cs → last_or v cs ≡ last_or u cs
+last_any v u [] h = absurd (omega arith)
+last_any v u (c ∷ cs) h = refl
 
 module _ (j : ℕ) where
   last-item : (k : ℕ) (w : What) (d x g : Bool) (v n : ℕ) (l : List Item)
-      → uses (item k w d x g) ≤ suc n → suc n - uses (item k w d x g) ≤ length (cells live j (passKey live j (item k w d x g) v) l)
-      → last_or v (shown live (item k w d x g) v ++ take (suc n - uses (item k w d x g)) (cells live j (passKey live j (item k w d x g) v) l))
-      ≡ last_or (passKey live j (item k w d x g) v) (take (suc n - uses (item k w d x g)) (cells live j (passKey live j (item k w d x g) v) l))
+      → uses (item k w d x g) ≤ suc n → suc n - uses (item k w d x g) ≤ length (cells live j (pass_key live j (item k w d x g) v) l)
+      → last_or v (shown live (item k w d x g) v ++ take (suc n - uses (item k w d x g)) (cells live j (pass_key live j (item k w d x g) v) l))
+      ≡ last_or (pass_key live j (item k w d x g) v) (take (suc n - uses (item k w d x g)) (cells live j (pass_key live j (item k w d x g) v) l))
   last-item k w true x g v n l h h' = refl
-  last-item k (text s u) false x g v n l h h' = last-paint v (unitsOf s u) _
+  last-item k (text s u) false x g v n l h h' = last-paint v (units_of s u) _
   last-item k (embed e) false x g v n l h h' = refl
-  last-item k (mark c u) false x g v n l h h' = last-any v (cond (eqb j c) u v) (take (suc n - 0) (cells live j (cond (eqb j c) u v) l)) (omega (arith, length-take (suc n - 0) (cells live j (cond (eqb j c) u v) l)))
+  last-item k (mark c u) false x g v n l h h' = last_any v (cond (eqb j c) u v) (take (suc n - 0) (cells live j (cond (eqb j c) u v) l)) (omega (arith, length-take (suc n - 0) (cells live j (cond (eqb j c) u v) l)))
 
   cut-force : (k : ℕ) (w : What) (d x g : Bool) (n : ℕ) (l : List Item) (m v : ℕ) → suc n < uses (item k w d x g)
       → force live j v (split (suc n) (item k w d x g) l m).left ≡ last_or v (take (suc n) (cells live j v (item k w d x g ∷ l)))
   cut-force k w true x g n l m v h = absurd (omega arith)
-  cut-force k (text s u) false x g n l m v h = sym (ap (last_or v) (sym (split-reads j k s u x g (suc n) l m v (omega arith)).left) ∙ last-paint v (unitsOf s (suc n)) [])
+  cut-force k (text s u) false x g n l m v h = sym (ap (last_or v) (sym (split-reads j k s u x g (suc n) l m v (omega arith)).left) ∙ last-paint v (units_of s (suc n)) [])
   cut-force k (embed e) false x g n l m v h = absurd (omega arith)
   cut-force k (mark c u) false x g n l m v h = absurd (omega arith)
 
@@ -43,16 +43,16 @@ module _ (j : ℕ) where
   place-force zero [] m v h = refl
   place-force (suc n) [] m v h = absurd (omega arith)
   place-force zero (i ∷ l) m v h = refl
-  place-force (suc n) (i ∷ l) m v h = go (leb (uses i) (suc n)) refl (place-force (suc n - uses i) l m (passKey live j i v))
+  place-force (suc n) (i ∷ l) m v h = go (leb (uses i) (suc n)) refl (place-force (suc n - uses i) l m (pass_key live j i v))
     where
       cs : List Cell
-      cs = cells live j (passKey live j i v) l
+      cs = cells live j (pass_key live j i v) l
 
       len : length (shown live i v) ≡ uses i
       len = length-shown j i.num i.what i.flags.dead i.flags.added i.flags.gone v
 
       go : (b : Bool) → leb (uses i) (suc n) ≡ b
-          → (suc n - uses i ≤ length cs → force live j (passKey live j i v) (place (suc n - uses i) l m).left ≡ last_or (passKey live j i v) (take (suc n - uses i) cs))
+          → (suc n - uses i ≤ length cs → force live j (pass_key live j i v) (place (suc n - uses i) l m).left ≡ last_or (pass_key live j i v) (take (suc n - uses i) cs))
           → force live j v (cond b (over i (place (suc n - uses i) l m)) (split (suc n) i l m)).left ≡ last_or v (take (suc n) (shown live i v ++ cs))
       go true e ih =
           let u : uses i ≤ suc n = leb-true (uses i) (suc n) e in
@@ -67,10 +67,10 @@ module _ (j : ℕ) where
   pub place-past : (n : ℕ) (l : List Item) (m v : ℕ) → length (cells live j v l) < n → (place n l m).left ≡ l
   place-past n [] m v h = refl
   place-past zero (i ∷ l) m v h = absurd (omega arith)
-  place-past (suc n) (i ∷ l) m v h = go (leb (uses i) (suc n)) refl (place-past (suc n - uses i) l m (passKey live j i v))
+  place-past (suc n) (i ∷ l) m v h = go (leb (uses i) (suc n)) refl (place-past (suc n - uses i) l m (pass_key live j i v))
     where
       cs : List Cell
-      cs = cells live j (passKey live j i v) l
+      cs = cells live j (pass_key live j i v) l
 
       len : length (shown live i v) ≡ uses i
       len = length-shown j i.num i.what i.flags.dead i.flags.added i.flags.gone v

@@ -6,8 +6,8 @@ use native.Mathlib.Omega.{arith}
 use lib.ListN.{length, get_or, take, drop, length-take, length-drop, get_or-append}
 use lib.Seq.{get_or-append-add, get_or-take, get_or-drop, length-take-le}
 use Rattle.sets.specs.Sets.{Set, keys}
-use Rattle.rules.specs.Reading.{live, Cell, cells, layCell, visible}
-use Rattle.rules.specs.Calls.{Sheet, formatRange, call}
+use Rattle.rules.specs.Reading.{live, Cell, cells, lay_cell, visible}
+use Rattle.rules.specs.Calls.{Sheet, format_range, call}
 use Rattle.rules.specs.Rulings.{Within}
 use Rattle.rules.specs.Shows.{Formatted}
 use Rattle.laws.proofs.Lists.{In}
@@ -56,8 +56,8 @@ module _ (g : Cell → Cell) (d : Cell) where
     }
 
 -- Every visible cell after an accepted format.
-pub format-points : (j : ℕ) → In j keys → (i n : ℕ) (a : Set) (s : Sheet) → Within s → (call (formatRange i n a) s).refusal ≡ 0 → (d : Cell) (p : ℕ) → p < visible s.items
-    → Formatted i n (layCell (a j)) (cells live j 0 s.items) (cells live j 0 (call (formatRange i n a) s).sheet.items) d p
-format-points j jk i n a s w e d p h =
-    subst (λ (x : List Cell). Formatted i n (layCell (a j)) (cells live j 0 s.items) x d p) (sym (call-cells j jk (formatRange i n a) s w e))
-    (at (layCell (a j)) d i n (cells live j 0 s.items) p (omega (arith, visible-cells j 0 s.items)))
+pub format_points : (j : ℕ) → In j keys → (i n : ℕ) (a : Set) (s : Sheet) → Within s → (call (format_range i n a) s).refusal ≡ 0 → (d : Cell) (p : ℕ) → p < visible s.items
+    → Formatted i n (lay_cell (a j)) (cells live j 0 s.items) (cells live j 0 (call (format_range i n a) s).sheet.items) d p
+format_points j jk i n a s w e d p h =
+    subst (λ (x : List Cell). Formatted i n (lay_cell (a j)) (cells live j 0 s.items) x d p) (sym (call-cells j jk (format_range i n a) s w e))
+    (at (lay_cell (a j)) d i n (cells live j 0 s.items) p (omega (arith, visible-cells j 0 s.items)))

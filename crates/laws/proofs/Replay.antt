@@ -7,10 +7,10 @@ use lib.Dec.{eqb}
 use lib.ListN.{length, take, drop, length-append, take-append-drop}
 use lib.Seq.{take_at, drop_at}
 use borrow.Author.Tests.{eqb-true}
-use Rattle.sets.specs.Sets.{Slot, absent, is, Set, Env, keys, bare, at, lay, nonNull, asSet}
+use Rattle.sets.specs.Sets.{Slot, absent, is, Set, Env, keys, bare, at, lay, non_null, as_set}
 use Rattle.rules.specs.Sheet.{What, text, embed, mark, Item}
-use Rattle.rules.specs.Reading.{Seen, Glyph, thing, unitsOf, glyphs, Cell, paint, layCell, cells, setKey, shown, Op, insert, delete, retain, read}
-use Rattle.rules.specs.Event.{Run, idle, inserting, deleting, retaining, Asm, addOp, growInsert, growDelete, growRetain, Change, stays, becomes, change, markStep, step, changed, pending, told, passed, gather, ahead, finish, fresh, event}
+use Rattle.rules.specs.Reading.{Seen, Glyph, thing, units_of, glyphs, Cell, paint, lay_cell, cells, set_key, shown, Op, insert, delete, retain, read}
+use Rattle.rules.specs.Event.{Run, idle, inserting, deleting, retaining, Asm, add_op, grow_insert, grow_delete, grow_retain, Change, stays, becomes, change, mark_step, step, changed, pending, told, passed, gather, ahead, finish, fresh, event}
 use Rattle.laws.proofs.Lists.{paint-append, length-paint, lay-paint, map-append, lay-absent, length-units, In, bare-at, and_left}
 
 abbrev Ops : Type 0
@@ -28,10 +28,10 @@ abbrev pub gives : Run → Slot → ℕ → List Cell → List Cell
 gives idle s c h = []
 gives (inserting gs) s c h = paint c gs
 gives (deleting n) s c h = []
-gives (retaining n) s c h = map (layCell s) h
+gives (retaining n) s c h = map (lay_cell s) h
 
-lay-nonNull : (v : ℕ) → lay (nonNull v) 0 ≡ v
-lay-nonNull v = go (eqb v 0) refl
+lay-non_null : (v : ℕ) → lay (non_null v) 0 ≡ v
+lay-non_null v = go (eqb v 0) refl
   where
     go : (b : Bool) → eqb v 0 ≡ b → lay (cond b absent (is v)) 0 ≡ v
     go true e = sym (eqb-true v 0 e)
@@ -40,9 +40,9 @@ lay-nonNull v = go (eqb v 0) refl
 module _ (j : ℕ) where
   -- the run's operation reads what it holds
   flush : (r : Run) (a : Set) (c : Env) (h cs : List Cell) (ops : Ops) → Holds r h
-      → read j (addOp r a c ++ ops) (h ++ cs) ≡ gives r (a j) (c j) h ++ read j ops cs
+      → read j (add_op r a c ++ ops) (h ++ cs) ≡ gives r (a j) (c j) h ++ read j ops cs
   flush idle a c h cs ops e = ap (λ (x : List Cell). read j ops (x ++ cs)) e
-  flush (inserting gs) a c h cs ops e = rw (lay-nonNull (c j)) (ap (λ (x : List Cell). paint (c j) gs ++ read j ops (x ++ cs)) e)
+  flush (inserting gs) a c h cs ops e = rw (lay-non_null (c j)) (ap (λ (x : List Cell). paint (c j) gs ++ read j ops (x ++ cs)) e)
   flush (deleting n) a c h cs ops e = ap (read j ops) (drop_at h cs n e)
   flush (retaining n) a c h cs ops e = rw (take_at h cs n e, drop_at h cs n e)
 
@@ -57,11 +57,11 @@ module _ (j : ℕ) where
 
   -- a run that ends, and a new one
   begins : (r r' : Run) (a : Set) (c : Env) (s' : Slot) (c' : ℕ) (h ca cb : List Cell) → Holds r h → Holds r' ca → gives r' s' c' ca ≡ cb
-      → Carry (addOp r a c ++ []) r r' (a j) s' (c j) c' h ca cb
+      → Carry (add_op r a c ++ []) r r' (a j) s' (c j) c' h ca cb
   begins r r' a c s' c' h ca cb hr hr' e = record {
     holds = ca;
     held = hr';
-    reads = λ ops cs. (gives r (a j) (c j) h, rw (append-nil (addOp r a c)) (flush r a c h (ca ++ cs) ops hr), ap (λ (x : List Cell). gives r (a j) (c j) h ++ x) e);
+    reads = λ ops cs. (gives r (a j) (c j) h, rw (append-nil (add_op r a c)) (flush r a c h (ca ++ cs) ops hr), ap (λ (x : List Cell). gives r (a j) (c j) h ++ x) e);
   }
 
   -- a run that goes on
@@ -77,16 +77,16 @@ module _ (j : ℕ) where
   same r s c h hr = grows r r s s c c h [] [] (rw (append-nil h) hr) (rw (append-nil h, append-nil (gives r s c h)) refl)
 
   retained : (r : Run) (a : Set) (c o : Env) (gs : List Glyph) (w : ℕ) (h : List Cell) → length gs ≡ w → Holds r h → lay (a j) (o j) ≡ c j
-      → Carry (told (growRetain w r) (asm r a c o)) r (growRetain w r).then (a j) (a j) (c j) (c j) h (paint (o j) gs) (paint (c j) gs)
+      → Carry (told (grow_retain w r) (asm r a c o)) r (grow_retain w r).then (a j) (a j) (c j) (c j) h (paint (o j) gs) (paint (c j) gs)
   retained idle a c o gs w h e hr i = begins idle (retaining w) a c (a j) (c j) h (paint (o j) gs) (paint (c j) gs) hr (length-paint (o j) gs ∙ e) (lay-paint (a j) (o j) gs ∙ ap (λ (x : ℕ). paint x gs) i)
   retained (inserting hs) a c o gs w h e hr i = begins (inserting hs) (retaining w) a c (a j) (c j) h (paint (o j) gs) (paint (c j) gs) hr (length-paint (o j) gs ∙ e) (lay-paint (a j) (o j) gs ∙ ap (λ (x : ℕ). paint x gs) i)
   retained (deleting n) a c o gs w h e hr i = begins (deleting n) (retaining w) a c (a j) (c j) h (paint (o j) gs) (paint (c j) gs) hr (length-paint (o j) gs ∙ e) (lay-paint (a j) (o j) gs ∙ ap (λ (x : ℕ). paint x gs) i)
   retained (retaining n) a c o gs w h e hr i = grows (retaining n) (retaining (n + w)) (a j) (a j) (c j) (c j) h (paint (o j) gs) (paint (c j) gs)
       (rw (length-append h (paint (o j) gs), length-paint (o j) gs, e, hr) refl)
-      (map-append (layCell (a j)) h (paint (o j) gs) ∙ ap (λ (x : List Cell). map (layCell (a j)) h ++ x) (lay-paint (a j) (o j) gs ∙ ap (λ (x : ℕ). paint x gs) i))
+      (map-append (lay_cell (a j)) h (paint (o j) gs) ∙ ap (λ (x : List Cell). map (lay_cell (a j)) h ++ x) (lay-paint (a j) (o j) gs ∙ ap (λ (x : ℕ). paint x gs) i))
 
   deleted : (r : Run) (a : Set) (c o : Env) (gs : List Glyph) (w : ℕ) (h : List Cell) → length gs ≡ w → Holds r h
-      → Carry (told (growDelete w r) (asm r a c o)) r (growDelete w r).then (a j) (a j) (c j) (c j) h (paint (o j) gs) []
+      → Carry (told (grow_delete w r) (asm r a c o)) r (grow_delete w r).then (a j) (a j) (c j) (c j) h (paint (o j) gs) []
   deleted idle a c o gs w h e hr = begins idle (deleting w) a c (a j) (c j) h (paint (o j) gs) [] hr (length-paint (o j) gs ∙ e) refl
   deleted (inserting hs) a c o gs w h e hr = begins (inserting hs) (deleting w) a c (a j) (c j) h (paint (o j) gs) [] hr (length-paint (o j) gs ∙ e) refl
   deleted (retaining n) a c o gs w h e hr = begins (retaining n) (deleting w) a c (a j) (c j) h (paint (o j) gs) [] hr (length-paint (o j) gs ∙ e) refl
@@ -94,7 +94,7 @@ module _ (j : ℕ) where
       (rw (length-append h (paint (o j) gs), length-paint (o j) gs, e, hr) refl) refl
 
   inserted : (r : Run) (a : Set) (c o : Env) (gs : List Glyph) (h : List Cell) → Holds r h
-      → Carry (told (growInsert gs r) (asm r a c o)) r (growInsert gs r).then (a j) (a j) (c j) (c j) h [] (paint (c j) gs)
+      → Carry (told (grow_insert gs r) (asm r a c o)) r (grow_insert gs r).then (a j) (a j) (c j) (c j) h [] (paint (c j) gs)
   inserted idle a c o gs h hr = begins idle (inserting gs) a c (a j) (c j) h [] (paint (c j) gs) hr refl refl
   inserted (deleting n) a c o gs h hr = begins (deleting n) (inserting gs) a c (a j) (c j) h [] (paint (c j) gs) hr refl refl
   inserted (retaining n) a c o gs h hr = begins (retaining n) (inserting gs) a c (a j) (c j) h [] (paint (c j) gs) hr refl refl
@@ -102,19 +102,19 @@ module _ (j : ℕ) where
       (rw append-nil hr) (paint-append (c j) hs gs)
 
   embedded : (r : Run) (a : Set) (c o : Env) (gs : List Glyph) (h : List Cell) → Holds r h
-      → Carry (addOp r a c ++ (insert gs (asSet c) ∷ [])) r idle (a j) (a j) (c j) (c j) h [] (paint (c j) gs)
+      → Carry (add_op r a c ++ (insert gs (as_set c) ∷ [])) r idle (a j) (a j) (c j) (c j) h [] (paint (c j) gs)
   embedded r a c o gs h hr = record {
     holds = [];
     held = refl;
     reads = λ ops cs. (
       gives r (a j) (c j) h ++ paint (c j) gs,
-      rw (append_assoc (addOp r a c) (insert gs (asSet c) ∷ []) ops) (flush r a c h cs (insert gs (asSet c) ∷ ops) hr ∙ rw (lay-nonNull (c j)) (sym (append_assoc (gives r (a j) (c j) h) (paint (c j) gs) (read j ops cs)))),
+      rw (append_assoc (add_op r a c) (insert gs (as_set c) ∷ []) ops) (flush r a c h cs (insert gs (as_set c) ∷ ops) hr ∙ rw (lay-non_null (c j)) (sym (append_assoc (gives r (a j) (c j) h) (paint (c j) gs) (read j ops cs)))),
       append-nil _,
     );
   }
 
   marked : (ch : Change) (now : Bool) (r : Run) (a : Set) (c o : Env) (k v : ℕ) (h : List Cell) → Holds r h
-      → Carry (told (markStep ch now r) (asm r a c o)) r (markStep ch now r).then (a j) (changed ch k a j) (c j) (cond now (cond (eqb j k) v (c j)) (c j)) h [] []
+      → Carry (told (mark_step ch now r) (asm r a c o)) r (mark_step ch now r).then (a j) (changed ch k a j) (c j) (cond now (cond (eqb j k) v (c j)) (c j)) h [] []
   marked ch now idle a c o k v h hr = grows idle idle _ _ _ _ h [] [] (rw append-nil hr) refl
   marked ch true (inserting gs) a c o k v h hr = begins (inserting gs) idle a c _ _ h [] [] hr refl refl
   marked ch false (inserting gs) a c o k v h hr = grows (inserting gs) (inserting gs) _ _ _ _ h [] [] (rw append-nil hr) (sym (append-nil _))
@@ -124,11 +124,11 @@ module _ (j : ℕ) where
 
   carried : (was now : Bool) (w : What) (r : Run) (a : Set) (c o : Env) (h : List Cell) → Holds r h → lay (a j) (o j) ≡ c j
       → Carry (told (step was now w (asm r a c o)) (asm r a c o)) r (step was now w (asm r a c o)).then (a j) (pending was now w (asm r a c o) j)
-      (c j) (cond now (setKey j w (c j)) (c j)) h (cond was (paint (o j) (glyphs w)) []) (cond now (paint (c j) (glyphs w)) [])
+      (c j) (cond now (set_key j w (c j)) (c j)) h (cond was (paint (o j) (glyphs w)) []) (cond now (paint (c j) (glyphs w)) [])
   carried false false (text s n) r a c o h hr i = same r (a j) (c j) h hr
-  carried false true (text s n) r a c o h hr i = inserted r a c o (unitsOf s n) h hr
-  carried true false (text s n) r a c o h hr i = deleted r a c o (unitsOf s n) n h (length-units s n) hr
-  carried true true (text s n) r a c o h hr i = retained r a c o (unitsOf s n) n h (length-units s n) hr i
+  carried false true (text s n) r a c o h hr i = inserted r a c o (units_of s n) h hr
+  carried true false (text s n) r a c o h hr i = deleted r a c o (units_of s n) n h (length-units s n) hr
+  carried true true (text s n) r a c o h hr i = retained r a c o (units_of s n) n h (length-units s n) hr i
   carried false false (embed e) r a c o h hr i = same r (a j) (c j) h hr
   carried false true (embed e) r a c o h hr i = embedded r a c o (thing e ∷ []) h hr
   carried true false (embed e) r a c o h hr i = deleted r a c o (thing e ∷ []) 1 h refl hr
@@ -171,7 +171,7 @@ slot_kept true true o c (is w) v i = go (eqb w v) refl
     go₁ true = refl
     go₁ false = refl
 
-    go : (b : Bool) → eqb w v ≡ b → lay (chosen (cond b stays (becomes (nonNull v))) (is w)) v ≡ v
+    go : (b : Bool) → eqb w v ≡ b → lay (chosen (cond b stays (becomes (non_null v))) (is w)) v ≡ v
     go true e = eqb-true w v e
     go false e = go₁ (eqb v 0)
 
@@ -179,9 +179,9 @@ changed-at : (ch : Change) (j k : ℕ) (a : Set) → eqb j k ≡ true → change
 changed-at stays j k a e = ap a (eqb-true j k e)
 changed-at (becomes s) j k a e = rw e
 
-changed-off : (ch : Change) (j k : ℕ) (a : Set) → eqb j k ≡ false → changed ch k a j ≡ a j
-changed-off stays j k a e = refl
-changed-off (becomes s) j k a e = rw e
+changed_off : (ch : Change) (j k : ℕ) (a : Set) → eqb j k ≡ false → changed ch k a j ≡ a j
+changed_off stays j k a e = refl
+changed_off (becomes s) j k a e = rw e
 
 mark-kept : (j : ℕ) (was now : Bool) (k v : ℕ) (a : Set) (c o : Env) → lay (a j) (o j) ≡ c j
     → lay (changed (change was now (o k) (c k) (a k) v) k a j) (cond was (cond (eqb j k) v (o j)) (o j)) ≡ cond now (cond (eqb j k) v (c j)) (c j)
@@ -198,10 +198,10 @@ mark-kept j was now k v a c o i = go (eqb j k) refl
 
     go : (b : Bool) → eqb j k ≡ b → lay (changed ch k a j) (cond was (cond b v (o j)) (o j)) ≡ cond now (cond b v (c j)) (c j)
     go true e = rw (changed-at ch j k a e, eqb-true j k e) (slot_kept was now (o k) (c k) (a k) v (rw (eqb-true j k e) at i))
-    go false e = rw (changed-off ch j k a e) (off was now)
+    go false e = rw (changed_off ch j k a e) (off was now)
 
 kept : (j : ℕ) (was now : Bool) (w : What) (t : Asm) → lay (t.attrs j) (t.old j) ≡ t.cur j
-    → lay (pending was now w t j) (cond was (setKey j w (t.old j)) (t.old j)) ≡ cond now (setKey j w (t.cur j)) (t.cur j)
+    → lay (pending was now w t j) (cond was (set_key j w (t.old j)) (t.old j)) ≡ cond now (set_key j w (t.cur j)) (t.cur j)
 kept j true true (text s n) t i = i
 kept j true false (text s n) t i = i
 kept j false true (text s n) t i = i
@@ -212,12 +212,12 @@ kept j false true (embed e) t i = i
 kept j false false (embed e) t i = i
 kept j was now (mark k v) t i = mark-kept j was now k v t.attrs t.cur t.old i
 
-pub replay-from : (j : ℕ) (was now : Seen) (l : List Item) (t : Asm) (h : List Cell) → Holds t.run h → lay (t.attrs j) (t.old j) ≡ t.cur j
+pub replay_from : (j : ℕ) (was now : Seen) (l : List Item) (t : Asm) (h : List Cell) → Holds t.run h → lay (t.attrs j) (t.old j) ≡ t.cur j
     → read j (gather was now t l) (h ++ cells was j (t.old j) l) ≡ gives t.run (t.attrs j) (t.cur j) h ++ cells now j (t.cur j) l
-replay-from j was now [] t h hr i = ap (λ (x : Ops). read j x (h ++ [])) (sym (append-nil (addOp t.run t.attrs t.cur))) ∙ flush j t.run t.attrs t.cur h [] [] hr
-replay-from j was now (i ∷ l) t h hr inv =
+replay_from j was now [] t h hr i = ap (λ (x : Ops). read j x (h ++ [])) (sym (append-nil (add_op t.run t.attrs t.cur))) ∙ flush j t.run t.attrs t.cur h [] [] hr
+replay_from j was now (i ∷ l) t h hr inv =
     go (carried j (was i.flags) (now i.flags) i.what t.run t.attrs t.cur t.old h hr inv)
-    (λ h' hr'. replay-from j was now l (passed was now i t) h' hr' (kept j (was i.flags) (now i.flags) i.what t inv))
+    (λ h' hr'. replay_from j was now l (passed was now i t) h' hr' (kept j (was i.flags) (now i.flags) i.what t inv))
   where
     t' : Asm
     t' = passed was now i t
@@ -243,7 +243,7 @@ ahead-reads j jk (retain n a) [] cs = go (bare keys a) refl
 on-rest : (j : ℕ) (op : Op (List Glyph)) (a b : Ops) → ((cs : List Cell) → read j a cs ≡ read j b cs) → (cs : List Cell) → read j (op ∷ a) cs ≡ read j (op ∷ b) cs
 on-rest j (insert gs s) a b h cs = ap (λ (x : List Cell). paint (lay (s j) 0) gs ++ x) (h cs)
 on-rest j (delete n) a b h cs = h (drop n cs)
-on-rest j (retain n s) a b h cs = ap (λ (x : List Cell). map (layCell (s j)) (take n cs) ++ x) (h (drop n cs))
+on-rest j (retain n s) a b h cs = ap (λ (x : List Cell). map (lay_cell (s j)) (take n cs) ++ x) (h (drop n cs))
 
 finish-reads : (j : ℕ) → In j keys → (ops : Ops) (cs : List Cell) → read j (finish ops) cs ≡ read j ops cs
 finish-reads j jk [] cs = refl
@@ -251,4 +251,4 @@ finish-reads j jk (op ∷ ops) cs = ahead-reads j jk op (finish ops) cs ∙ on-r
 
 -- The replay theorem.
 pub replay : (j : ℕ) → In j keys → (was now : Seen) (l : List Item) → read j (event was now l) (cells was j 0 l) ≡ cells now j 0 l
-replay j jk was now l = finish-reads j jk (gather was now fresh l) (cells was j 0 l) ∙ replay-from j was now l fresh [] refl refl
+replay j jk was now l = finish-reads j jk (gather was now fresh l) (cells was j 0 l) ∙ replay_from j was now l fresh [] refl refl

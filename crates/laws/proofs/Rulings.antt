@@ -8,12 +8,12 @@ use native.Mathlib.Omega.{arith}
 use lib.Dec.{eqb, leb, ltb}
 use lib.ListN.{length, length-map}
 use borrow.Author.Tests.{eqb-true, eqb-false, leb-true, leb-false, le-leb, ltb-true, ltb-false}
-use Rattle.units.specs.Surrogates.{paired, splitsPair}
+use Rattle.units.specs.Surrogates.{paired, splits_pair}
 use Rattle.rules.specs.Sheet.{rested, begin}
 use Rattle.rules.specs.Reading.{Op, insert, delete, retain}
 use Rattle.rules.specs.Places.{At, whole, stay}
-use Rattle.rules.specs.Calls.{Sheet, Outcome, refuse, badRange, tooLong, roomy, Body, words, object, Call, insertText, insertTextWith, insertEmbed, insertEmbedWith, formatRange, removeRange, applyDelta, beginNow, check, call}
-use Rattle.rules.specs.Rulings.{Within, seen, ruling, decided, unwhole, inPair, tooFar, crowded, Exactly, faultAt, behind, FirstFault, here, later, NoFault, end, on}
+use Rattle.rules.specs.Calls.{Sheet, Outcome, refuse, bad_range, too_long, roomy, Body, words, object, Call, insert_text, insert_text_with, insert_embed, insert_embed_with, format_range, remove_range, apply_delta, begin_now, check, call}
+use Rattle.rules.specs.Rulings.{Within, seen, ruling, decided, unwhole, in_pair, too_far, crowded, Exactly, fault_at, behind, FirstFault, here, later, NoFault, end, on}
 use Rattle.laws.proofs.Lists.{and_both}
 
 -- The refusal of one that is refused at all, from up to three tests
@@ -32,16 +32,16 @@ roomy-within p us s h h' =
 
 -- Every call is its ruling, decided.
 pub call-is : (c : Call) (s : Sheet) → Within s → call c s ≡ decided (ruling c s) s
-call-is (insertText i []) s w = sym (roomy-within (stay s.items s.next) s.units s w.items w.units)
-call-is (insertText i (u ∷ us)) s w = three (not (paired (u ∷ us))) (splitsPair (seen s) i) false s _
-call-is (insertTextWith i [] a) s w = sym (roomy-within (stay s.items s.next) s.units s w.items w.units)
-call-is (insertTextWith i (u ∷ us) a) s w = three (not (paired (u ∷ us))) (splitsPair (seen s) i) false s _
-call-is (insertEmbed i e) s w = three false (splitsPair (seen s) i) false s _
-call-is (insertEmbedWith i e a) s w = three false (splitsPair (seen s) i) false s _
-call-is (formatRange i n a) s w = three false (badRange (seen s) i n) false s _
-call-is (removeRange i n) s w = three false (badRange (seen s) i n) (tooLong (seen s) i n) s _
-call-is (applyDelta ops) s w = refl
-call-is beginNow s w = sym (roomy-within (stay (begin s.items) s.next) s.units s (omega (arith, length-map s.items rested, w.items)) w.units)
+call-is (insert_text i []) s w = sym (roomy-within (stay s.items s.next) s.units s w.items w.units)
+call-is (insert_text i (u ∷ us)) s w = three (not (paired (u ∷ us))) (splits_pair (seen s) i) false s _
+call-is (insert_text_with i [] a) s w = sym (roomy-within (stay s.items s.next) s.units s w.items w.units)
+call-is (insert_text_with i (u ∷ us) a) s w = three (not (paired (u ∷ us))) (splits_pair (seen s) i) false s _
+call-is (insert_embed i e) s w = three false (splits_pair (seen s) i) false s _
+call-is (insert_embed_with i e a) s w = three false (splits_pair (seen s) i) false s _
+call-is (format_range i n a) s w = three false (bad_range (seen s) i n) false s _
+call-is (remove_range i n) s w = three false (bad_range (seen s) i n) (too_long (seen s) i n) s _
+call-is (apply_delta ops) s w = refl
+call-is begin_now s w = sym (roomy-within (stay (begin s.items) s.next) s.units s (omega (arith, length-map s.items rested, w.items)) w.units)
 
 -- A fault is 3, 2, 1 or none, by the first reason that holds
 check-small : (us : List ℕ) (c : ℕ) (ops : List (Op Body)) → check us c ops ≤ 3
@@ -52,13 +52,13 @@ check-small us c (insert (words t) a ∷ ops) = go (paired t) (check-small us c 
     go true h = h
     go false h = omega arith
 check-small us c (insert (object e) a ∷ ops) = check-small us c ops
-check-small us c (delete n ∷ ops) = go (splitsPair us (c + n)) (tooLong us c n) (check-small us (min (length us) (c + n)) ops)
+check-small us c (delete n ∷ ops) = go (splits_pair us (c + n)) (too_long us c n) (check-small us (min (length us) (c + n)) ops)
   where
     go : (b b' : Bool) → check us (min (length us) (c + n)) ops ≤ 3 → cond b 2 (cond b' 1 (check us (min (length us) (c + n)) ops)) ≤ 3
     go true b' h = omega arith
     go false true h = omega arith
     go false false h = h
-check-small us c (retain n a ∷ ops) = go (splitsPair us (c + n)) (check-small us (min (length us) (c + n)) ops)
+check-small us c (retain n a ∷ ops) = go (splits_pair us (c + n)) (check-small us (min (length us) (c + n)) ops)
   where
     go : (b : Bool) → check us (min (length us) (c + n)) ops ≤ 3 → cond b 2 (check us (min (length us) (c + n)) ops) ≤ 3
     go true h = omega arith
@@ -73,17 +73,17 @@ by_number r h = go (eqb r 3) refl (eqb r 2) refl (eqb r 1) refl
     go false e false f true g = eqb-true r 1 g
     go false e false f false g = let x = eqb-false r 3 e in let y = eqb-false r 2 f in let z = eqb-false r 1 g in omega arith
 
-fault-is : (c : Call) (s : Sheet) → (ruling c s).fault ≡ cond (unwhole c s) 3 (cond (inPair c s) 2 (cond (tooFar c s) 1 0))
-fault-is (insertText i []) s = refl
-fault-is (insertText i (u ∷ us)) s = refl
-fault-is (insertTextWith i [] a) s = refl
-fault-is (insertTextWith i (u ∷ us) a) s = refl
-fault-is (insertEmbed i e) s = refl
-fault-is (insertEmbedWith i e a) s = refl
-fault-is (formatRange i n a) s = refl
-fault-is (removeRange i n) s = refl
-fault-is (applyDelta ops) s = by_number (check (seen s) 0 ops) (check-small (seen s) 0 ops)
-fault-is beginNow s = refl
+fault-is : (c : Call) (s : Sheet) → (ruling c s).fault ≡ cond (unwhole c s) 3 (cond (in_pair c s) 2 (cond (too_far c s) 1 0))
+fault-is (insert_text i []) s = refl
+fault-is (insert_text i (u ∷ us)) s = refl
+fault-is (insert_text_with i [] a) s = refl
+fault-is (insert_text_with i (u ∷ us) a) s = refl
+fault-is (insert_embed i e) s = refl
+fault-is (insert_embed_with i e a) s = refl
+fault-is (format_range i n a) s = refl
+fault-is (remove_range i n) s = refl
+fault-is (apply_delta ops) s = by_number (check (seen s) 0 ops) (check-small (seen s) 0 ops)
+fault-is begin_now s = refl
 
 room-refusal : (p : At) (us : List ℕ) (s : Sheet) → (roomy p us s).refusal ≡ cond (ltb 2048 (length (whole p)) || ltb 16384 (length us)) 4 0
 room-refusal p us s = go (leb (length (whole p)) 2048) refl (leb (length us) 16384) refl (ltb 2048 (length (whole p))) refl (ltb 16384 (length us)) refl
@@ -100,8 +100,8 @@ room-refusal p us s = go (leb (length (whole p)) 2048) refl (leb (length us) 163
     go true e false f false g false h = absurd (omega (arith, leb-false (length us) 16384 f, ltb-false 16384 (length us) h))
 
 -- The refusal number, as an equation.
-pub call-refusal : (c : Call) (s : Sheet) → Within s → (call c s).refusal ≡ cond (unwhole c s) 3 (cond (inPair c s) 2 (cond (tooFar c s) 1 (cond (crowded c s) 4 0)))
-call-refusal c s w = ap (λ (o : Outcome). o.refusal) (call-is c s w) ∙ go (ruling c s).fault (unwhole c s) (inPair c s) (tooFar c s) (fault-is c s)
+pub call-refusal : (c : Call) (s : Sheet) → Within s → (call c s).refusal ≡ cond (unwhole c s) 3 (cond (in_pair c s) 2 (cond (too_far c s) 1 (cond (crowded c s) 4 0)))
+call-refusal c s w = ap (λ (o : Outcome). o.refusal) (call-is c s w) ∙ go (ruling c s).fault (unwhole c s) (in_pair c s) (too_far c s) (fault-is c s)
   where
     go : (n : ℕ) (a b d : Bool) → n ≡ cond a 3 (cond b 2 (cond d 1 0)) → (cond (eqb n 0) (roomy (ruling c s).place (ruling c s).units s) (refuse n s)).refusal ≡ cond a 3 (cond b 2 (cond d 1 (cond (crowded c s) 4 0)))
     go n true b d e = rw e refl
@@ -152,12 +152,12 @@ exactly false false false false r e = record {
 }
 
 -- Exactly when, for every call.
-pub call-exactly : (c : Call) (s : Sheet) → Within s → Exactly (unwhole c s) (inPair c s) (tooFar c s) (crowded c s) (call c s).refusal
-call-exactly c s w = exactly (unwhole c s) (inPair c s) (tooFar c s) (crowded c s) (call c s).refusal (call-refusal c s w)
+pub call-exactly : (c : Call) (s : Sheet) → Within s → Exactly (unwhole c s) (in_pair c s) (too_far c s) (crowded c s) (call c s).refusal
+call-exactly c s w = exactly (unwhole c s) (in_pair c s) (too_far c s) (crowded c s) (call c s).refusal (call-refusal c s w)
 
 -- What the test for room says.
-pub crowded-means : (c : Call) (s : Sheet) → (crowded c s ≡ true) ↔ ((2048 < length (whole (ruling c s).place)) ⊎ (16384 < length (ruling c s).units))
-crowded-means c s = (over (ltb 2048 n) refl, λ h. back h (ltb 2048 n) refl (ltb 16384 u) refl)
+pub crowded_means : (c : Call) (s : Sheet) → (crowded c s ≡ true) ↔ ((2048 < length (whole (ruling c s).place)) ⊎ (16384 < length (ruling c s).units))
+crowded_means c s = (over (ltb 2048 n) refl, λ h. back h (ltb 2048 n) refl (ltb 16384 u) refl)
   where
     n : ℕ
     n = length (whole (ruling c s).place)
@@ -176,20 +176,20 @@ crowded-means c s = (over (ltb 2048 n) refl, λ h. back h (ltb 2048 n) refl (ltb
     back (inr h) false e false e' = absurd (omega (arith, ltb-false 16384 u e'))
 
 -- A delta's fault is that of its first faulty operation.
-check-step : (us : List ℕ) (c : ℕ) (op : Op Body) (ops : List (Op Body)) → check us c (op ∷ ops) ≡ cond (eqb (faultAt us c op) 0) (check us (behind us c op) ops) (faultAt us c op)
+check-step : (us : List ℕ) (c : ℕ) (op : Op Body) (ops : List (Op Body)) → check us c (op ∷ ops) ≡ cond (eqb (fault_at us c op) 0) (check us (behind us c op) ops) (fault_at us c op)
 check-step us c (insert (words t) a) ops = go (paired t)
   where
     go : (b : Bool) → cond b (check us c ops) 3 ≡ cond (eqb (cond b 0 3) 0) (check us c ops) (cond b 0 3)
     go true = refl
     go false = refl
 check-step us c (insert (object e) a) ops = refl
-check-step us c (delete n) ops = go (splitsPair us (c + n)) (tooLong us c n)
+check-step us c (delete n) ops = go (splits_pair us (c + n)) (too_long us c n)
   where
     go : (b b' : Bool) → cond b 2 (cond b' 1 (check us (min (length us) (c + n)) ops)) ≡ cond (eqb (cond b 2 (cond b' 1 0)) 0) (check us (min (length us) (c + n)) ops) (cond b 2 (cond b' 1 0))
     go true b' = refl
     go false true = refl
     go false false = refl
-check-step us c (retain n a) ops = go (splitsPair us (c + n))
+check-step us c (retain n a) ops = go (splits_pair us (c + n))
   where
     go : (b : Bool) → cond b 2 (check us (min (length us) (c + n)) ops) ≡ cond (eqb (cond b 2 0) 0) (check us (min (length us) (c + n)) ops) (cond b 2 0)
     go true = refl
@@ -200,17 +200,17 @@ faulty us r c ops h = (find c ops, back)
   where
     find : (c : ℕ) (ops : List (Op Body)) → check us c ops ≡ r → FirstFault us r c ops
     find c [] e = absurd (omega arith)
-    find c (op ∷ ops) e = go (eqb (faultAt us c op) 0) refl (sym (check-step us c op ops) ∙ e) (find (behind us c op) ops)
+    find c (op ∷ ops) e = go (eqb (fault_at us c op) 0) refl (sym (check-step us c op ops) ∙ e) (find (behind us c op) ops)
       where
-        go : (b : Bool) → eqb (faultAt us c op) 0 ≡ b → cond b (check us (behind us c op) ops) (faultAt us c op) ≡ r → (check us (behind us c op) ops ≡ r → FirstFault us r (behind us c op) ops) → FirstFault us r c (op ∷ ops)
-        go true q e ih = later (eqb-true (faultAt us c op) 0 q) (ih e)
+        go : (b : Bool) → eqb (fault_at us c op) 0 ≡ b → cond b (check us (behind us c op) ops) (fault_at us c op) ≡ r → (check us (behind us c op) ops ≡ r → FirstFault us r (behind us c op) ops) → FirstFault us r c (op ∷ ops)
+        go true q e ih = later (eqb-true (fault_at us c op) 0 q) (ih e)
         go false q e ih = here e
 
     back : {c : ℕ} {ops : List (Op Body)} → FirstFault us r c ops → check us c ops ≡ r
-    back (here {c} {op} {ops} e) = check-step us c op ops ∙ go (eqb (faultAt us c op) 0) refl
+    back (here {c} {op} {ops} e) = check-step us c op ops ∙ go (eqb (fault_at us c op) 0) refl
       where
-        go : (b : Bool) → eqb (faultAt us c op) 0 ≡ b → cond b (check us (behind us c op) ops) (faultAt us c op) ≡ r
-        go true q = absurd (omega (arith, eqb-true (faultAt us c op) 0 q))
+        go : (b : Bool) → eqb (fault_at us c op) 0 ≡ b → cond b (check us (behind us c op) ops) (fault_at us c op) ≡ r
+        go true q = absurd (omega (arith, eqb-true (fault_at us c op) 0 q))
         go false q = e
     back (later {c} {op} {ops} e f) = check-step us c op ops ∙ ap (λ (n : ℕ). cond (eqb n 0) (check us (behind us c op) ops) n) e ∙ back f
 
@@ -219,11 +219,11 @@ faultless us c ops = (find c ops, back)
   where
     find : (c : ℕ) (ops : List (Op Body)) → check us c ops ≡ 0 → NoFault us c ops
     find c [] e = end
-    find c (op ∷ ops) e = go (eqb (faultAt us c op) 0) refl (sym (check-step us c op ops) ∙ e) (find (behind us c op) ops)
+    find c (op ∷ ops) e = go (eqb (fault_at us c op) 0) refl (sym (check-step us c op ops) ∙ e) (find (behind us c op) ops)
       where
-        go : (b : Bool) → eqb (faultAt us c op) 0 ≡ b → cond b (check us (behind us c op) ops) (faultAt us c op) ≡ 0 → (check us (behind us c op) ops ≡ 0 → NoFault us (behind us c op) ops) → NoFault us c (op ∷ ops)
-        go true q e ih = on (eqb-true (faultAt us c op) 0 q) (ih e)
-        go false q e ih = absurd (eqb-false (faultAt us c op) 0 q e)
+        go : (b : Bool) → eqb (fault_at us c op) 0 ≡ b → cond b (check us (behind us c op) ops) (fault_at us c op) ≡ 0 → (check us (behind us c op) ops ≡ 0 → NoFault us (behind us c op) ops) → NoFault us c (op ∷ ops)
+        go true q e ih = on (eqb-true (fault_at us c op) 0 q) (ih e)
+        go false q e ih = absurd (eqb-false (fault_at us c op) 0 q e)
 
     back : {c : ℕ} {ops : List (Op Body)} → NoFault us c ops → check us c ops ≡ 0
     back end = refl

@@ -17,13 +17,13 @@ abbrev small : List ℕ → Type 0
 small [] = Unit {0}
 small (k ∷ ks) = (k < 16) × small ks
 
-small-in : (k : ℕ) (ks : List ℕ) → In k ks → small ks → k < 16
-small-in k (c ∷ ks) (here e) h = subst (λ (x : ℕ). x < 16) (sym e) h.0
-small-in k (c ∷ ks) (there i) h = small-in k ks i h.1
+small_in : (k : ℕ) (ks : List ℕ) → In k ks → small ks → k < 16
+small_in k (c ∷ ks) (here e) h = subst (λ (x : ℕ). x < 16) (sym e) h.0
+small_in k (c ∷ ks) (there i) h = small_in k ks i h.1
 
 key-small : (k : ℕ) → In k keys → k < 16
 unfolding keys
-key-small k i = small-in k keys i (omega arith, (omega arith, (omega arith, (omega arith, (omega arith, (omega arith, (omega arith, (omega arith, (omega arith, (omega arith, (omega arith, (omega arith, (omega arith, (omega arith, (omega arith, (omega arith, tt))))))))))))))))
+key-small k i = small_in k keys i (omega arith, (omega arith, (omega arith, (omega arith, (omega arith, (omega arith, (omega arith, (omega arith, (omega arith, (omega arith, (omega arith, (omega arith, (omega arith, (omega arith, (omega arith, (omega arith, tt))))))))))))))))
 
 fresh-used : {N : What → Type 0} {w : What} {u u' : ℕ} → Fresh N w u u' → u ≤ u'
 fresh-used (embeds x q) = omega arith

@@ -23,10 +23,10 @@ walks-step b (suc k) m s h l =
     let e : suc k - 1 ≡ k = omega arith in
     rw (e, lt-ltb s b l)
 
-pub walks-out : (b k : ℕ) (m : List ℕ) (s : ℕ) → 0 < k → b ≤ s → walks b k m s ≡ false
+pub walks_out : (b k : ℕ) (m : List ℕ) (s : ℕ) → 0 < k → b ≤ s → walks b k m s ≡ false
 unfolding walks
-walks-out b zero m s h l = absurd (omega arith)
-walks-out b (suc k) m s h l = rw (le-ltb s b l)
+walks_out b zero m s h l = absurd (omega arith)
+walks_out b (suc k) m s h l = rw (le-ltb s b l)
 
 pub walks-end : (b k : ℕ) (m : List ℕ) (s : ℕ) → k ≤ 0 → walks b k m s ≡ eqb s END
 unfolding walks

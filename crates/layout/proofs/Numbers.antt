@@ -21,11 +21,11 @@ AllBelow b (i ∷ l) = (i.num < b) × AllBelow b l
 abbrev pub Once : List Item → ℕ → Type 0
 Once l n = (j : ℕ) → occurs j l ≡ below j n
 
-pub below-yes : (j n : ℕ) → j < n → below j n ≡ 1
-below-yes j n h = rw (lt-ltb j n h)
+pub below_yes : (j n : ℕ) → j < n → below j n ≡ 1
+below_yes j n h = rw (lt-ltb j n h)
 
-pub below-no : (j n : ℕ) → n ≤ j → below j n ≡ 0
-below-no j n h = rw (le-ltb j n h)
+pub below_no : (j n : ℕ) → n ≤ j → below j n ≡ 0
+below_no j n h = rw (le-ltb j n h)
 
 -- ---- not there
 pub off-none : (x : ℕ) (l : List Item) → Off x l → occurs x l ≡ 0
@@ -36,9 +36,9 @@ off-none x (i ∷ l) o = go (eqb x i.num) refl (off-none x l o.1)
     go true e h = absurd (o.0 (eqb-true x i.num e))
     go false e h = omega arith
 
-pub none-off : (x : ℕ) (l : List Item) → occurs x l ≡ 0 → Off x l
-none-off x [] h = tt
-none-off x (i ∷ l) h = ((λ (e : x ≡ i.num). omega (arith, ap (λ (t : Bool). cond t 1 0 + occurs x l) (eq-eqb x i.num e))), none-off x l (omega arith))
+pub none_off : (x : ℕ) (l : List Item) → occurs x l ≡ 0 → Off x l
+none_off x [] h = tt
+none_off x (i ∷ l) h = ((λ (e : x ≡ i.num). omega (arith, ap (λ (t : Bool). cond t 1 0 + occurs x l) (eq-eqb x i.num e))), none_off x l (omega arith))
 
 above-none : (n x : ℕ) (l : List Item) → AllBelow n l → n ≤ x → occurs x l ≡ 0
 above-none n x l b h = off-none x l (go l b)
@@ -59,7 +59,7 @@ distinct-once x (i ∷ l) d = go (eqb x i.num) refl (distinct-once x l d.1)
 pub once-distinct : (l : List Item) → ((x : ℕ) → occurs x l ≤ 1) → Distinct l
 once-distinct [] h = tt
 once-distinct (i ∷ l) h = (
-  none-off i.num l (omega (arith, h i.num, ap (λ (t : Bool). cond t 1 0 + occurs i.num l) (eq-eqb i.num i.num refl))),
+  none_off i.num l (omega (arith, h i.num, ap (λ (t : Bool). cond t 1 0 + occurs i.num l) (eq-eqb i.num i.num refl))),
   once-distinct l (λ x. omega (arith, h x)),
 )
 
@@ -73,11 +73,11 @@ once-below n (i ∷ l) h = (go (ltb i.num n) refl, once-below n l (λ x k. omega
 
 -- what the rules' `once` says of a list
 pub once-parts : (l : List Item) (n : ℕ) → Once l n → Distinct l × AllBelow n l
-once-parts l n h = (once-distinct l (λ x. at_most x (ltb x n) refl), once-below n l (λ x k. h x ∙ below-no x n k))
+once-parts l n h = (once-distinct l (λ x. at_most x (ltb x n) refl), once-below n l (λ x k. h x ∙ below_no x n k))
   where
     at_most : (x : ℕ) (t : Bool) → ltb x n ≡ t → occurs x l ≤ 1
-    at_most x true e = omega (arith, h x, below-yes x n (ltb-true x n e))
-    at_most x false e = omega (arith, h x, below-no x n (ltb-false x n e))
+    at_most x true e = omega (arith, h x, below_yes x n (ltb-true x n e))
+    at_most x false e = omega (arith, h x, below_no x n (ltb-false x n e))
 
 -- ---- all of them
 -- how many items have a number below n, counted by number
@@ -102,12 +102,12 @@ counted-nil zero = refl
 counted-nil (suc n) = omega (arith, counted-nil n)
 
 counted-cons : (n : ℕ) (i : Item) (l : List Item) → counted n (i ∷ l) ≡ below i.num n + counted n l
-counted-cons zero i l = omega (arith, below-no i.num 0 (omega arith))
+counted-cons zero i l = omega (arith, below_no i.num 0 (omega arith))
 counted-cons (suc n) i l = omega (arith, counted-cons n i l, one_more n i.num)
 
-counted-all : (n : ℕ) (l : List Item) → AllBelow n l → counted n l ≡ length l
-counted-all n [] b = counted-nil n
-counted-all n (i ∷ l) b = omega (arith, counted-cons n i l, counted-all n l b.1, below-yes i.num n b.0)
+counted_all : (n : ℕ) (l : List Item) → AllBelow n l → counted n l ≡ length l
+counted_all n [] b = counted-nil n
+counted_all n (i ∷ l) b = omega (arith, counted-cons n i l, counted_all n l b.1, below_yes i.num n b.0)
 
 module _ (l : List Item) (most : (x : ℕ) → occurs x l ≤ 1) where
   counted-le : (n : ℕ) → counted n l ≤ n
@@ -128,8 +128,8 @@ pub once : (n : ℕ) (l : List Item) → Distinct l → AllBelow n l → length 
 once n l d b e j = go (ltb j n) refl
   where
     go : (t : Bool) → ltb j n ≡ t → occurs j l ≡ below j n
-    go true q = counted-full l (λ x. distinct-once x l d) n j (counted-all n l b ∙ e) (ltb-true j n q) ∙ sym (below-yes j n (ltb-true j n q))
-    go false q = above-none n j l b (ltb-false j n q) ∙ sym (below-no j n (ltb-false j n q))
+    go true q = counted-full l (λ x. distinct-once x l d) n j (counted_all n l b ∙ e) (ltb-true j n q) ∙ sym (below_yes j n (ltb-true j n q))
+    go false q = above-none n j l b (ltb-false j n q) ∙ sym (below_no j n (ltb-false j n q))
 
 -- ---- of a walk
 pub walk-below : (b f : ℕ) (m : List ℕ) (s : ℕ) → walks b f m s ≡ true → AllBelow b (chain f m s)

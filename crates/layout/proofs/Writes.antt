@@ -1,5 +1,5 @@
 -- What writes do to the list. Three laws serve every write: a word that is not on the chain does not count (`keep`), a word that keeps its link changes its own
--- item (`edit-chain`), and a new word behind item l stands behind l's item (`link-after`). The laws of the crate's writes, `kill-law` and `put-law`, follow. Assumes nothing.
+-- item (`edit-chain`), and a new word behind item l stands behind l's item (`link-after`). The laws of the crate's writes, `kill_law` and `put_law`, follow. Assumes nothing.
 use Prim.Native.Nat.{ℕ, zero, suc, ◌+◌, ◌/◌, ◌%◌, ◌<◌, ◌≤◌}
 use native.Mathlib.Omega.{arith}
 use mathlib.Core.Path.{◌≡◌, refl, sym, ap, ap₂, ◌∙◌}
@@ -10,7 +10,7 @@ use lib.Seq.{get_or-set_same, get_or-set_other}
 use lib.Dec.{eqb, ltb}
 use borrow.Author.Tests.{lt-ltb, eqb-true, eqb-false}
 use Rattle.rules.specs.Sheet.{Item}
-use Rattle.layout.specs.Chain.{END, itemFrom, item_at, next_at, chain, walks, head_or, last_or, editAt}
+use Rattle.layout.specs.Chain.{END, item_from, item_at, next_at, chain, walks, head_or, last_or, edit_at}
 use Rattle.layout.proofs.Links.{walks-zero, walks_parts, Off, Distinct, head-is}
 
 -- ---- a word that is not on the chain
@@ -37,7 +37,7 @@ walks_more b (suc f) m s p =
     rw (lt-ltb s (suc b) (omega (arith, q.0)), walks_more b f m (next_at m s) q.1)
 
 -- ---- a word that keeps its link
-module _ (m : List ℕ) (x w : ℕ) (room : x < length m) (same : w % 4096 ≡ next_at m x) (g : Item → Item) (is : itemFrom x (w / 4096) ≡ g (item_at m x)) where
+module _ (m : List ℕ) (x w : ℕ) (room : x < length m) (same : w % 4096 ≡ next_at m x) (g : Item → Item) (is : item_from x (w / 4096) ≡ g (item_at m x)) where
   edit-word : (s : ℕ) (t : Bool) → eqb s x ≡ t → get_or (set m x w) s 0 ≡ cond t w (get_or m s 0)
   edit-word s true e = rw (eqb-true s x e) (get_or-set_same m x w 0 room)
   edit-word s false e = get_or-set_other m x s w 0 (eqb-false s x e)
@@ -49,15 +49,15 @@ module _ (m : List ℕ) (x w : ℕ) (room : x < length m) (same : w % 4096 ≡ n
       go true e = rw (edit-word s true e, eqb-true s x e) same
       go false e = rw (edit-word s false e)
 
-  edit-item : (s : ℕ) → item_at (set m x w) s ≡ editAt x g (item_at m s)
-  unfolding editAt
+  edit-item : (s : ℕ) → item_at (set m x w) s ≡ edit_at x g (item_at m s)
+  unfolding edit_at
   edit-item s = go (eqb s x) refl
     where
       go : (t : Bool) → eqb s x ≡ t → item_at (set m x w) s ≡ cond (eqb s x) (g (item_at m s)) (item_at m s)
       go true e = rw (e, edit-word s true e, eqb-true s x e) is
       go false e = rw (e, edit-word s false e)
 
-  pub edit-chain : (f s : ℕ) → chain f (set m x w) s ≡ map (editAt x g) (chain f m s)
+  pub edit-chain : (f s : ℕ) → chain f (set m x w) s ≡ map (edit_at x g) (chain f m s)
   unfolding chain
   edit-chain zero s = refl
   edit-chain (suc f) s = ap₂ ◌∷◌ (edit-item s) (ap (chain f (set m x w)) (edit-next s) ∙ edit-chain f (next_at m s))
@@ -74,9 +74,9 @@ no-cons e =
     let z : ◌≡◌ {A = ℕ} 0 1 = cc in
     omega arith
 
-pub off-mid : (i : ℕ) (L : List Item) (x : Item) (R : List Item) → Off i (L ++ x ∷ R) → i ≡ x.num → ⊥
-off-mid i [] x R o e = o.0 e
-off-mid i (y ∷ L) x R o e = off-mid i L x R o.1 e
+pub off_mid : (i : ℕ) (L : List Item) (x : Item) (R : List Item) → Off i (L ++ x ∷ R) → i ≡ x.num → ⊥
+off_mid i [] x R o e = o.0 e
+off_mid i (y ∷ L) x R o e = off_mid i L x R o.1 e
 
 -- a number that a sound walk starts at is a link
 pub start-le : (b f : ℕ) (m : List ℕ) (s : ℕ) → b ≤ END → walks b f m s ≡ true → s ≤ END
@@ -107,7 +107,7 @@ module _ (m : List ℕ) (n l v w : ℕ) (room : n < length m) (few : n ≤ END) 
       keep_walks b f (set m n v) s l w (rw e ol) ∙ keep_walks b f m s n v on'
 
   pub link-after : (L : List Item) (x : Item) (R : List Item) (f s : ℕ) → chain f m s ≡ L ++ x ∷ R → walks n f m s ≡ true → Distinct (L ++ x ∷ R) → Off n (L ++ x ∷ R) → x.num ≡ l
-      → (walks (suc n) (suc f) (set (set m n v) l w) s ≡ true) × (chain (suc f) (set (set m n v) l w) s ≡ L ++ itemFrom l (w / 4096) ∷ itemFrom n (v / 4096) ∷ R)
+      → (walks (suc n) (suc f) (set (set m n v) l w) s ≡ true) × (chain (suc f) (set (set m n v) l w) s ≡ L ++ item_from l (w / 4096) ∷ item_from n (v / 4096) ∷ R)
   unfolding chain walks
   link-after [] x R zero s e p d o el = absurd (no-cons e)
   link-after [] x R (suc f) s e p d o el =
@@ -121,7 +121,7 @@ module _ (m : List ℕ) (n l v w : ℕ) (room : n < length m) (few : n ≤ END) 
       let wl : get_or (set (set m n v) l w) s 0 ≡ w = rw sl word-l in
       rw (wl, to, word-n, vn, lt-ltb s (suc n) (omega (arith, q.0)), lt-ltb n (suc n) (omega arith)) (
         keep-walks₂ (suc n) f (next_at m s) ol on' ∙ walks_more n f m (next_at m s) q.1,
-        ap₂ (λ (i : ℕ) (ys : List Item). itemFrom i (w / 4096) ∷ itemFrom n (v / 4096) ∷ ys) sl (keep₂ f (next_at m s) ol on' ∙ es),
+        ap₂ (λ (i : ℕ) (ys : List Item). item_from i (w / 4096) ∷ item_from n (v / 4096) ∷ ys) sl (keep₂ f (next_at m s) ol on' ∙ es),
       )
   link-after (y ∷ L) x R zero s e p d o el = absurd (no-cons e)
   link-after (y ∷ L) x R (suc f) s e p d o el =
@@ -129,19 +129,19 @@ module _ (m : List ℕ) (n l v w : ℕ) (room : n < length m) (few : n ≤ END) 
       let es : chain f m (next_at m s) ≡ L ++ x ∷ R = cc in
       let ey : item_at m s ≡ y = cc in
       let sy : s ≡ y.num = ap (λ (z : Item). z.num) ey in
-      let ws : get_or (set (set m n v) l w) s 0 ≡ get_or m s 0 = word-o s (λ (t : s ≡ l). off-mid y.num L x R d.0 (sym sy ∙ t ∙ sym el)) (λ (t : s ≡ n). o.0 (sym t ∙ sy)) in
+      let ws : get_or (set (set m n v) l w) s 0 ≡ get_or m s 0 = word-o s (λ (t : s ≡ l). off_mid y.num L x R d.0 (sym sy ∙ t ∙ sym el)) (λ (t : s ≡ n). o.0 (sym t ∙ sy)) in
       let ih = link-after L x R f (next_at m s) es q.1 d.1 o.1 el in
       rw (ws, lt-ltb s (suc n) (omega (arith, q.0))) (ih.0, ap₂ ◌∷◌ ey ih.1)
 
 -- ---- a new word n before the first item
 module _ (m : List ℕ) (n v : ℕ) (room : n < length m) where
   pub link-front : (f s : ℕ) → v % 4096 ≡ s → walks n f m s ≡ true → Off n (chain f m s)
-      → (walks (suc n) (suc f) (set m n v) n ≡ true) × (chain (suc f) (set m n v) n ≡ itemFrom n (v / 4096) ∷ chain f m s)
+      → (walks (suc n) (suc f) (set m n v) n ≡ true) × (chain (suc f) (set m n v) n ≡ item_from n (v / 4096) ∷ chain f m s)
   unfolding chain walks
   link-front f s to p o =
       rw (get_or-set_same m n v 0 room, to, lt-ltb n (suc n) (omega arith)) (
         keep_walks (suc n) f m s n v o ∙ walks_more n f m s p,
-        ap (λ (ys : List Item). itemFrom n (v / 4096) ∷ ys) (keep f m s n v o),
+        ap (λ (ys : List Item). item_from n (v / 4096) ∷ ys) (keep f m s n v o),
       )
 
 -- ---- a split of the list, and the numbers beside it

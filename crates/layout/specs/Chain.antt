@@ -1,23 +1,23 @@
 -- The list that the links of a buffer give.
 use Rattle.std.specs.Prelude.{ℕ, zero, suc, ◌/◌, ◌%◌, Bool, false, cond, List, [], ◌∷◌, get_or, eqb, ltb}
 use Rattle.rules.specs.Sheet.{Item}
-use Rattle.layout.specs.Word.{whatOf, contentFrom}
+use Rattle.layout.specs.Word.{what_of, content_from}
 
 -- The link that ends a list: above every place of a buffer.
 abbrev pub END : ℕ
 END = 4095
 
 -- The item of number n whose word without its link is q.
-abbrev pub itemFrom : ℕ → ℕ → Item
-itemFrom n q =
+abbrev pub item_from : ℕ → ℕ → Item
+item_from n q =
     record {
       num = n;
-      what = whatOf (contentFrom (q % 4) (q / 32 % 4294967296));
+      what = what_of (content_from (q % 4) (q / 32 % 4294967296));
       flags = record { dead = eqb (q / 4 % 2) 1; added = eqb (q / 8 % 2) 1; gone = eqb (q / 16 % 2) 1 };
     }
 
 abbrev pub item_at : List ℕ → ℕ → Item
-item_at m n = itemFrom n (get_or m n 0 / 4096)
+item_at m n = item_from n (get_or m n 0 / 4096)
 
 abbrev pub next_at : List ℕ → ℕ → ℕ
 next_at m n = get_or m n 0 % 4096
@@ -42,5 +42,5 @@ last_or d [] = d
 last_or d (i ∷ l) = last_or i.num l
 
 -- A change of the item of number n; any other stays.
-unfoldable pub editAt : ℕ → (Item → Item) → Item → Item
-editAt n g i = cond (eqb i.num n) (g i) i
+unfoldable pub edit_at : ℕ → (Item → Item) → Item → Item
+edit_at n g i = cond (eqb i.num n) (g i) i

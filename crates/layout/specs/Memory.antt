@@ -7,9 +7,9 @@ use Rattle.rules.specs.Calls.{Sheet, Outcome, Call, call}
 use Rattle.layout.specs.declared.word.Content.{Content}
 use Rattle.layout.specs.declared.word.Content.TheVariants.{Text, Embed, Mark}
 use Rattle.layout.specs.declared.head.Head.{Head}
-use Rattle.layout.specs.Word.{packOf, in_range}
-use Rattle.layout.specs.Chain.{itemFrom, next_at, chain, walks, head_or}
-use Rattle.layout.specs.Heads.{grownHead}
+use Rattle.layout.specs.Word.{pack_of, in_range}
+use Rattle.layout.specs.Chain.{item_from, next_at, chain, walks, head_or}
+use Rattle.layout.specs.Heads.{grown_head}
 
 -- ---- the sheet of the rules
 -- The items that a head leads to.
@@ -17,19 +17,19 @@ abbrev pub list_of : Head → List ℕ → List Item
 list_of h m = chain h.items m h.first
 
 -- Items count from 0, so the next unused number is how many there are.
-abbrev pub modelOf : Head → List ℕ → List ℕ → Sheet
-modelOf h m u = record { items = list_of h m; next = h.items; units = take h.units u }
+abbrev pub model_of : Head → List ℕ → List ℕ → Sheet
+model_of h m u = record { items = list_of h m; next = h.items; units = take h.units u }
 
 -- ---- sound
 -- What an item may hold: text that is not empty, lies in the used units and has no half pair; a mark of a key and a value that there are.
-unfoldable pub whatOk : List ℕ → ℕ → What → Bool
-whatOk u used (text s n) = ltb 0 n && (leb (s + n) used && paired (take n (drop s u)))
-whatOk u used (embed e) = true
-whatOk u used (mark k v) = ltb k 16 && ltb v 256
+unfoldable pub what_ok : List ℕ → ℕ → What → Bool
+what_ok u used (text s n) = ltb 0 n && (leb (s + n) used && paired (take n (drop s u)))
+what_ok u used (embed e) = true
+what_ok u used (mark k v) = ltb k 16 && ltb v 256
 
 -- "Deleted now" only where deleted; added and deleted only where "deleted now".
-abbrev pub flagsOk : Bool → Bool → Bool → Bool
-flagsOk dead added gone = honest (record { dead = dead; added = added; gone = gone })
+abbrev pub flags_ok : Bool → Bool → Bool → Bool
+flags_ok dead added gone = honest (record { dead = dead; added = added; gone = gone })
 
 -- How many units of text.
 abbrev pub len_of : What → ℕ
@@ -38,24 +38,24 @@ len_of (embed e) = 0
 len_of (mark k v) = 0
 
 -- A word in order: its range, its flags, and what it holds.
-unfoldable pub wordOk : List ℕ → ℕ → ℕ → Bool
-wordOk u used w = in_range w && (honest (itemFrom 0 (w / 4096)).flags && whatOk u used (itemFrom 0 (w / 4096)).what)
+unfoldable pub word_ok : List ℕ → ℕ → ℕ → Bool
+word_ok u used w = in_range w && (honest (item_from 0 (w / 4096)).flags && what_ok u used (item_from 0 (w / 4096)).what)
 
 -- Every word of f steps from s passes the test.
-unfoldable pub eachOk : (ℕ → Bool) → ℕ → List ℕ → ℕ → Bool
-eachOk ok zero m s = true
-eachOk ok (suc f) m s = ok (get_or m s 0) && eachOk ok f m (next_at m s)
+unfoldable pub each_ok : (ℕ → Bool) → ℕ → List ℕ → ℕ → Bool
+each_ok ok zero m s = true
+each_ok ok (suc f) m s = ok (get_or m s 0) && each_ok ok f m (next_at m s)
 
 -- The buffers have their full size; the counts keep the limits; as many steps as there are items meet only items and end;
 -- every word met is in order; the lengths of all texts add up to the used units.
-unfoldable pub soundOf : Head → List ℕ → List ℕ → Bool
-soundOf h m u =
+unfoldable pub sound_of : Head → List ℕ → List ℕ → Bool
+sound_of h m u =
     eqb (length m) 2048
     && (eqb (length u) 16384
     && (leb h.items 2048
     && (leb h.units 16384
     && (walks h.items h.items m h.first
-    && (eachOk (wordOk u h.units) h.items m h.first && eqb (held (list_of h m)) h.units)))))
+    && (each_ok (word_ok u h.units) h.items m h.first && eqb (held (list_of h m)) h.units)))))
 
 -- The same, part by part.
 pub record Sound (h : Head) (m u : List ℕ) : Type 0 where
@@ -64,19 +64,19 @@ pub record Sound (h : Head) (m u : List ℕ) : Type 0 where
   pub items : h.items ≤ 2048
   pub used : h.units ≤ 16384
   pub walk : walks h.items h.items m h.first ≡ true
-  pub each : eachOk (wordOk u h.units) h.items m h.first ≡ true
+  pub each : each_ok (word_ok u h.units) h.items m h.first ≡ true
   pub whole : held (list_of h m) ≡ h.units
 
 -- ---- stored
 -- What the rules' item holds, as the code names it.
-abbrev pub contentOf : What → Content
-contentOf (text s n) = Text s n
-contentOf (embed e) = Embed e
-contentOf (mark k v) = Mark k v
+abbrev pub content_of : What → Content
+content_of (text s n) = Text s n
+content_of (embed e) = Embed e
+content_of (mark k v) = Mark k v
 
 -- The word of an item that is linked to n.
 abbrev pub word_of : Item → ℕ → ℕ
-word_of i n = packOf (record { next = n; content = contentOf i.what; dead = i.flags.dead; added = i.flags.added; gone = i.flags.gone })
+word_of i n = pack_of (record { next = n; content = content_of i.what; dead = i.flags.dead; added = i.flags.added; gone = i.flags.gone })
 
 -- Each item of the list in the word of its own number, linked to the one behind it; every other word as it was.
 unfoldable pub stored : List Item → List ℕ → List ℕ
@@ -84,8 +84,8 @@ stored [] m = m
 stored (i ∷ l) m = set (stored l m) i.num (word_of i (head_or l))
 
 -- The used units at the front; behind them the buffer as it was.
-abbrev pub storedUnits : List ℕ → List ℕ → List ℕ
-storedUnits us u = us ++ drop (length us) u
+abbrev pub stored_units : List ℕ → List ℕ → List ℕ
+stored_units us u = us ++ drop (length us) u
 
 -- ---- a call
 -- What a call leaves: its refusal number, the head, and both buffers.
@@ -96,25 +96,25 @@ pub record Carried : Type 0 where
   pub units : List ℕ
 
 -- Refused: the number, and all as it was.
-abbrev pub keptAll : ℕ → Head → List ℕ → List ℕ → Carried
-keptAll n h m u = record { refusal = n; head = h; words = m; units = u }
+abbrev pub kept_all : ℕ → Head → List ℕ → List ℕ → Carried
+kept_all n h m u = record { refusal = n; head = h; words = m; units = u }
 
 -- Accepted: the new sheet, stored.
-abbrev pub storedAll : Sheet → Head → List ℕ → List ℕ → Carried
-storedAll s h m u =
+abbrev pub stored_all : Sheet → Head → List ℕ → List ℕ → Carried
+stored_all s h m u =
     record {
       refusal = 0;
-      head = grownHead h (head_or s.items) s.next (length s.units);
+      head = grown_head h (head_or s.items) s.next (length s.units);
       words = stored s.items m;
-      units = storedUnits s.units u;
+      units = stored_units s.units u;
     }
 
 abbrev pub landed : Outcome → Head → List ℕ → List ℕ → Carried
-landed o h m u = cond (eqb o.refusal 0) (storedAll o.sheet h m u) (keptAll o.refusal h m u)
+landed o h m u = cond (eqb o.refusal 0) (stored_all o.sheet h m u) (kept_all o.refusal h m u)
 
 -- A rule carried out on the sheet that lies in the buffers. One that is not sound is refused before all else.
-unfoldable pub carryBy : (Sheet → Outcome) → Head → List ℕ → List ℕ → Carried
-carryBy f h m u = cond (soundOf h m u) (landed (f (modelOf h m u)) h m u) (keptAll 9 h m u)
+unfoldable pub carry_by : (Sheet → Outcome) → Head → List ℕ → List ℕ → Carried
+carry_by f h m u = cond (sound_of h m u) (landed (f (model_of h m u)) h m u) (kept_all 9 h m u)
 
 abbrev pub carry : Call → Head → List ℕ → List ℕ → Carried
-carry c h m u = carryBy (call c) h m u
+carry c h m u = carry_by (call c) h m u

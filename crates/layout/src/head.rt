@@ -1,6 +1,6 @@
 // What a sheet carries by value: its first item, and how many items and units are in use.
 ghost use Rattle.std.specs.Prelude.{◌≡◌};
-ghost use Rattle.layout.specs.Heads.{freshHead, grownHead};
+ghost use Rattle.layout.specs.Heads.{fresh_head, grown_head};
 
 #[derive(Drop)]
 pub struct Head {
@@ -17,7 +17,7 @@ impl Head {
     pub const END: u32 = 4095;
 
     pub fn fresh() -> Head
-        ensures { result ≡ freshHead }
+        ensures { result ≡ fresh_head }
     {
         Head {
             first: Head::END,
@@ -28,7 +28,7 @@ impl Head {
 
     // The one place where a changed head is built.
     pub fn grown(self, first: u32, items: u32, units: u32) -> Head
-        ensures { result ≡ grownHead self first items units }
+        ensures { result ≡ grown_head self first items units }
     {
         Head {
             first,

@@ -1,7 +1,7 @@
 // An item and the word that holds it. Words are taken apart and put together here; only the walk of soundness reads a payload itself.
 ghost use Rattle.std.specs.Prelude.{◌≡◌, ◌<◌, ◌≤◌};
-ghost use Rattle.rules.specs.Sheet.{width, isMark};
-ghost use Rattle.layout.specs.Word.{whatOf, contentFrom, unpackOf, kind_of, payloadOf, flagOf, packOf, relinkOf, in_range, kindIn, payloadIn, shownLen, liveMark};
+ghost use Rattle.rules.specs.Sheet.{width, is_mark};
+ghost use Rattle.layout.specs.Word.{what_of, content_from, unpack_of, kind_of, payload_of, flag_of, pack_of, relink_of, in_range, kind_in, payload_in, shown_len, live_mark};
 
 #[derive(Drop)]
 pub enum Content {
@@ -22,7 +22,7 @@ pub struct Item {
 
 // How many units long.
 pub fn width(c: Content) -> u32
-    ensures { result ≡ width (whatOf c) }
+    ensures { result ≡ width (what_of c) }
 {
     match c {
         Content::Text { start: _, len } => len,
@@ -32,7 +32,7 @@ pub fn width(c: Content) -> u32
 }
 
 pub fn is_mark(c: Content) -> bool
-    ensures { result ≡ isMark (whatOf c) }
+    ensures { result ≡ is_mark (what_of c) }
 {
     match c {
         Content::Text { start: _, len: _ } => false,
@@ -43,7 +43,7 @@ pub fn is_mark(c: Content) -> bool
 
 fn content_of(k: u64, p: u64) -> Content
     requires { p < 4294967296 }
-    ensures { result ≡ contentFrom k p }
+    ensures { result ≡ content_from k p }
 {
     if k == 0 {
         return Content::Text {
@@ -62,43 +62,43 @@ fn content_of(k: u64, p: u64) -> Content
 
 // The parts of a word one by one, also for a walk that has no use for the item itself.
 pub fn next_of(w: u64) -> u32
-    ensures { result ≡ (unpackOf w).next }
+    ensures { result ≡ (unpack_of w).next }
 {
     (w % 4096) as u32
 }
 
 pub fn dead_of(w: u64) -> bool
-    ensures { result ≡ (unpackOf w).dead }
+    ensures { result ≡ (unpack_of w).dead }
 {
     w / 4096 / 4 % 2 == 1
 }
 
 pub fn added_of(w: u64) -> bool
-    ensures { result ≡ (unpackOf w).added }
+    ensures { result ≡ (unpack_of w).added }
 {
     w / 4096 / 8 % 2 == 1
 }
 
 pub fn gone_of(w: u64) -> bool
-    ensures { result ≡ (unpackOf w).gone }
+    ensures { result ≡ (unpack_of w).gone }
 {
     w / 4096 / 16 % 2 == 1
 }
 
 pub fn kind_of(w: u64) -> u64
-    ensures { result ≡ kindIn w }
+    ensures { result ≡ kind_in w }
 {
     w / 4096 % 4
 }
 
 pub fn payload_of(w: u64) -> u64
-    ensures { (result ≡ payloadIn w) × (result < 4294967296) }
+    ensures { (result ≡ payload_in w) × (result < 4294967296) }
 {
     w / 4096 / 32 % 4294967296
 }
 
 pub fn unpack(w: u64) -> Item
-    ensures { result ≡ unpackOf w }
+    ensures { result ≡ unpack_of w }
 {
     let content = content_of(kind_of(w), payload_of(w));
     Item {
@@ -121,7 +121,7 @@ fn kind(c: Content) -> u64
 }
 
 fn payload(c: Content) -> u64
-    ensures { (result ≡ payloadOf c) × (result < 70373039144960) }
+    ensures { (result ≡ payload_of c) × (result < 70373039144960) }
 {
     match c {
         Content::Text { start, len } => start as u64 + 16384 * (len as u64),
@@ -131,13 +131,13 @@ fn payload(c: Content) -> u64
 }
 
 fn flag(b: bool) -> u64
-    ensures { (result ≡ flagOf b) × (result ≤ 1) }
+    ensures { (result ≡ flag_of b) × (result ≤ 1) }
 {
     if b { 1 } else { 0 }
 }
 
 pub fn pack(it: Item) -> u64
-    ensures { result ≡ packOf it }
+    ensures { result ≡ pack_of it }
 {
     let c = it.content;
     let k = kind(c);
@@ -151,7 +151,7 @@ pub fn pack(it: Item) -> u64
 // The word with another link.
 pub fn relink(w: u64, n: u32) -> u64
     requires { n < 4096 }
-    ensures { result ≡ relinkOf w n }
+    ensures { result ≡ relink_of w n }
 {
     w / 4096 * 4096 + n as u64
 }
@@ -168,7 +168,7 @@ pub fn in_range(w: u64) -> bool
 
 // What an item adds to the visible length.
 pub fn shown_len(it: Item) -> u32
-    ensures { result ≡ shownLen it.dead (whatOf it.content) }
+    ensures { result ≡ shown_len it.dead (what_of it.content) }
 {
     if it.dead {
         return 0;
@@ -179,7 +179,7 @@ pub fn shown_len(it: Item) -> u32
 
 // Only such an item changes what is in force.
 pub fn is_live_mark(it: Item) -> bool
-    ensures { result ≡ liveMark it.dead (whatOf it.content) }
+    ensures { result ≡ live_mark it.dead (what_of it.content) }
 {
     if !it.dead {
         let c = it.content;

@@ -8,10 +8,10 @@ use borrow.Author.Tests.{eq-eqb, ne_eqb, lt-ltb, le-ltb, ltb-true}
 use lib.Dec.{eqb, ltb}
 use lib.ListN.{length, length-set}
 use Rattle.attrs.specs.declared.Took.{Took}
-use Rattle.attrs.specs.Packed.{withAt}
+use Rattle.attrs.specs.Packed.{with_at}
 use Rattle.words.specs.Words.{WordIs}
 use Rattle.words.specs.Numbers.{piece_of}
-use Rattle.lines.specs.Fields.{letterOf, part, field_of, read_of, readAt, ReadIs, stoppedAt, or_else, pairField, unitField, withField, withUnits, Takes, gather, Gathers}
+use Rattle.lines.specs.Fields.{letter_of, part, field_of, read_of, read_at, ReadIs, stopped_at, or_else, pair_field, unit_field, with_field, with_units, Takes, gather, Gathers}
 use Rattle.words.specs.declared.words.Word.{Word as Found}
 use Rattle.words.specs.declared.numbers.Piece.{Piece}
 use Rattle.words.specs.declared.numbers.Piece.TheVariants.{Unit, Pair, Nothing}
@@ -27,14 +27,14 @@ module _ (s : List ℕ) (a e : ℕ) where
   unfolding field_of
   field-line p = simp (eq-eqb a e p)
 
-  pub field-op : (a ≡ e → ⊥) → (x : ℕ) → x ≡ letterOf (part s a e) → x ≡ 59 → Op ≡ field_of s a e
+  pub field-op : (a ≡ e → ⊥) → (x : ℕ) → x ≡ letter_of (part s a e) → x ≡ 59 → Op ≡ field_of s a e
   unfolding field_of
-  field-op n x l p = simp (ne_eqb a e n, eq-eqb (letterOf (part s a e)) 59 (sym l ∙ p))
+  field-op n x l p = simp (ne_eqb a e n, eq-eqb (letter_of (part s a e)) 59 (sym l ∙ p))
 
-  pub field-word : (a ≡ e → ⊥) → (x : ℕ) → x ≡ letterOf (part s a e) → (x ≡ 59 → ⊥) → (p : Piece) → p ≡ piece_of (part s a e) → Word p ≡ field_of s a e
+  pub field-word : (a ≡ e → ⊥) → (x : ℕ) → x ≡ letter_of (part s a e) → (x ≡ 59 → ⊥) → (p : Piece) → p ≡ piece_of (part s a e) → Word p ≡ field_of s a e
   unfolding field_of
   field-word n x l m p q =
-      simp (ne_eqb a e n, ne_eqb (letterOf (part s a e)) 59 (λ z. m (l ∙ z))) (ap Word q)
+      simp (ne_eqb a e n, ne_eqb (letter_of (part s a e)) 59 (λ z. m (l ∙ z))) (ap Word q)
 
 pub read_is : {s : List ℕ} {from : ℕ} {w : Found} (g : Field) → WordIs s from w → g ≡ field_of s w.start w.end → ReadIs s from (record { field = g; next = w.end })
 read_is {s} {from} {w} g h e =
@@ -50,24 +50,24 @@ or_some zero other h = absurd (h refl)
 or_some (suc n) other h = refl
 
 module _ (f : Fields) (at : ℕ) where
-  pub unit-full : (room : ℕ) → room ≤ f.count → stoppedAt f at 3 ≡ unitField f at room
+  pub unit-full : (room : ℕ) → room ≤ f.count → stopped_at f at 3 ≡ unit_field f at room
   unit-full room h = simp (le-ltb f.count room h)
 
-  pub unit-room : (room : ℕ) → f.count < room → record { at = at; count = f.count + 1; attrs = f.attrs; refusal = f.refusal; end = 0 } ≡ unitField f at room
+  pub unit-room : (room : ℕ) → f.count < room → record { at = at; count = f.count + 1; attrs = f.attrs; refusal = f.refusal; end = 0 } ≡ unit_field f at room
   unit-room room h = simp (lt-ltb f.count room h)
 
   module _ (marks k v : ℕ) where
-    pub pair-none : marks ≡ 0 → stoppedAt f at 3 ≡ pairField f at marks k v
+    pub pair-none : marks ≡ 0 → stopped_at f at 3 ≡ pair_field f at marks k v
     pair-none z = simp (eq-eqb marks 0 z)
 
-    module _ (n : marks ≡ 0 → ⊥) (t : Took) (e : t ≡ withAt f.attrs k v) where
-      pub pair-refused : (t.refusal ≡ 0 → ⊥) → record { at = at; count = f.count; attrs = t.attrs; refusal = t.refusal; end = 0 } ≡ pairField f at marks k v
+    module _ (n : marks ≡ 0 → ⊥) (t : Took) (e : t ≡ with_at f.attrs k v) where
+      pub pair-refused : (t.refusal ≡ 0 → ⊥) → record { at = at; count = f.count; attrs = t.attrs; refusal = t.refusal; end = 0 } ≡ pair_field f at marks k v
       pair-refused h =
           ap {B = Fields} (λ (x : ℕ). record { at = at; count = f.count; attrs = t.attrs; refusal = x; end = 0 }) (or_some t.refusal f.refusal h)
           ∙ ap {B = Fields} (λ (x : Took). record { at = at; count = f.count; attrs = x.attrs; refusal = or_else x.refusal f.refusal; end = 0 }) e
           ∙ simp (ne_eqb marks 0 n)
 
-      pub pair-taken : t.refusal ≡ 0 → record { at = at; count = f.count; attrs = t.attrs; refusal = f.refusal; end = 0 } ≡ pairField f at marks k v
+      pub pair-taken : t.refusal ≡ 0 → record { at = at; count = f.count; attrs = t.attrs; refusal = f.refusal; end = 0 } ≡ pair_field f at marks k v
       pair-taken h =
           ap {B = Fields} (λ (x : ℕ). record { at = at; count = f.count; attrs = t.attrs; refusal = or_else x f.refusal; end = 0 }) (sym h)
           ∙ ap {B = Fields} (λ (x : Took). record { at = at; count = f.count; attrs = x.attrs; refusal = or_else x.refusal f.refusal; end = 0 }) e
@@ -80,31 +80,31 @@ pub record Bounds (f g : Fields) (next room : ℕ) : Type 0 where
   pub low : f.count ≤ g.count
   pub high : f.count ≤ room → g.count ≤ room
 
-stopped-bounds : (f : Fields) (at room end : ℕ) → Bounds f (stoppedAt f at end) at room
-stopped-bounds f at room end = record { at = refl; low = omega arith; high = λ h. h }
+stopped_bounds : (f : Fields) (at room end : ℕ) → Bounds f (stopped_at f at end) at room
+stopped_bounds f at room end = record { at = refl; low = omega arith; high = λ h. h }
 
-unit-bounds : (f : Fields) (at room : ℕ) → Bounds f (unitField f at room) at room
-unit-bounds f at room = go (ltb f.count room) refl
+unit_bounds : (f : Fields) (at room : ℕ) → Bounds f (unit_field f at room) at room
+unit_bounds f at room = go (ltb f.count room) refl
   where
-    go : (t : Bool) → ltb f.count room ≡ t → Bounds f (cond t (record { at = at; count = f.count + 1; attrs = f.attrs; refusal = f.refusal; end = 0 }) (stoppedAt f at 3)) at room
+    go : (t : Bool) → ltb f.count room ≡ t → Bounds f (cond t (record { at = at; count = f.count + 1; attrs = f.attrs; refusal = f.refusal; end = 0 }) (stopped_at f at 3)) at room
     go true e = record { at = refl; low = omega arith; high = λ h. omega (arith, ltb-true f.count room e) }
-    go false e = stopped-bounds f at room 3
+    go false e = stopped_bounds f at room 3
 
-pair-bounds : (f : Fields) (at room marks k v : ℕ) → Bounds f (pairField f at marks k v) at room
-pair-bounds f at room marks k v = go (eqb marks 0)
+pair_bounds : (f : Fields) (at room marks k v : ℕ) → Bounds f (pair_field f at marks k v) at room
+pair_bounds f at room marks k v = go (eqb marks 0)
   where
-    go : (t : Bool) → Bounds f (cond t (stoppedAt f at 3) (record { at = at; count = f.count; attrs = (withAt f.attrs k v).attrs; refusal = or_else (withAt f.attrs k v).refusal f.refusal; end = 0 })) at room
-    go true = stopped-bounds f at room 3
+    go : (t : Bool) → Bounds f (cond t (stopped_at f at 3) (record { at = at; count = f.count; attrs = (with_at f.attrs k v).attrs; refusal = or_else (with_at f.attrs k v).refusal f.refusal; end = 0 })) at room
+    go true = stopped_bounds f at room 3
     go false = record { at = refl; low = omega arith; high = λ h. h }
 
-field-bounds : (f : Fields) (at marks room : ℕ) (x : Field) → Bounds f (withField f at marks room x) at room
-field-bounds f at marks room Line = stopped-bounds f at room 1
-field-bounds f at marks room Op = stopped-bounds f at room 2
-field-bounds f at marks room (Word (Unit u)) = unit-bounds f at room
-field-bounds f at marks room (Word (Pair k v)) = pair-bounds f at room marks k v
-field-bounds f at marks room (Word Nothing) = stopped-bounds f at room 3
+field_bounds : (f : Fields) (at marks room : ℕ) (x : Field) → Bounds f (with_field f at marks room x) at room
+field_bounds f at marks room Line = stopped_bounds f at room 1
+field_bounds f at marks room Op = stopped_bounds f at room 2
+field_bounds f at marks room (Word (Unit u)) = unit_bounds f at room
+field_bounds f at marks room (Word (Pair k v)) = pair_bounds f at room marks k v
+field_bounds f at marks room (Word Nothing) = stopped_bounds f at room 3
 
-units-long : (u : List ℕ) (n : ℕ) (x : Field) → length (withUnits u n x) ≡ length u
+units-long : (u : List ℕ) (n : ℕ) (x : Field) → length (with_units u n x) ≡ length u
 units-long u n Line = refl
 units-long u n Op = refl
 units-long u n (Word (Unit v)) = length-set u n v
@@ -112,13 +112,13 @@ units-long u n (Word (Pair k v)) = refl
 units-long u n (Word Nothing) = refl
 
 pub takes : {f g : Fields} {r : Read} {marks : ℕ} {u u' : List ℕ} (x : Field) → r.field ≡ x
-    → g ≡ withField f r.next marks (length u) x → u' ≡ withUnits u f.count x → Takes f r marks u u' g
+    → g ≡ with_field f r.next marks (length u) x → u' ≡ with_units u f.count x → Takes f r marks u u' g
 takes {f} {g} {r} {marks} {u} {u'} x e p q =
-    let is : g ≡ withField f r.next marks (length u) r.field = p ∙ ap (withField f r.next marks (length u)) (sym e) in
-    let b = field-bounds f r.next marks (length u) x in
+    let is : g ≡ with_field f r.next marks (length u) r.field = p ∙ ap (with_field f r.next marks (length u)) (sym e) in
+    let b = field_bounds f r.next marks (length u) x in
     record {
       is = is;
-      units = q ∙ ap (withUnits u f.count) (sym e);
+      units = q ∙ ap (with_units u f.count) (sym e);
       at = rw p b.at;
       low = rw p b.low;
       high = rw p b.high;
@@ -158,8 +158,8 @@ module _ {s : List ℕ} {marks : ℕ} {f₀ : Fields} {u₀ : List ℕ} where
     pub gathering-done : left ≡ 0 → Gathers s f₀ marks u₀ u f
     gathering-done z = ended (none left z)
 
-    turn : (n : ℕ) → 0 < n → f.end ≡ 0 → (r : Read) → r ≡ readAt s f.at
-        → gather n s marks f u ≡ gather (n - 1) s marks (withField f r.next marks (length u) r.field) (withUnits u f.count r.field)
+    turn : (n : ℕ) → 0 < n → f.end ≡ 0 → (r : Read) → r ≡ read_at s f.at
+        → gather n s marks f u ≡ gather (n - 1) s marks (with_field f r.next marks (length u) r.field) (with_units u f.count r.field)
     unfolding gather
     turn zero h z r e = absurd (omega arith)
     turn (suc n) h z r e =

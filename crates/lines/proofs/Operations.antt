@@ -9,9 +9,9 @@ use Rattle.ops.specs.declared.delta.Inserted.TheVariants.{Text}
 use Rattle.ops.specs.declared.delta.Op.{Op}
 use Rattle.ops.specs.declared.delta.Op.TheVariants.{Insert}
 use Rattle.words.specs.Words.{WordIs, word_at}
-use Rattle.lines.specs.Fields.{readAt, start_at, gather, Gathered, Gathers}
+use Rattle.lines.specs.Fields.{read_at, start_at, gather, Gathered, Gathers}
 use Rattle.lines.specs.Calls.{NumberIs, name_of}
-use Rattle.lines.specs.Deltas.{Taken, startOps, stoppedOps, withOp, withText, textOp, opMarks, op_of, numberedWith, numberedOp, NumberedIs, sortOf, opBy, opIn, allOps, opsBy, deltaIn, ReadTo}
+use Rattle.lines.specs.Deltas.{Taken, start_ops, stopped_ops, with_op, with_text, text_op, op_marks, op_of, numbered_with, numbered_op, NumberedIs, sort_of, op_by, op_in, all_ops, ops_by, delta_in, ReadTo}
 use Rattle.words.specs.declared.words.Word.{Word as Found}
 use Rattle.words.specs.declared.numbers.Number.{Number}
 use Rattle.words.specs.declared.numbers.Number.TheVariants.{Is, Nothing as NoNumber}
@@ -26,42 +26,42 @@ use Rattle.lines.specs.declared.deltas.AskedDelta.{AskedDelta}
 -- ---- one operation
 
 -- What is gathered for a text starts behind the units that are there.
-pub text-bounds : {s u u' : List ℕ} {from n m : ℕ} {f₀ f : Fields} → f₀ ≡ start_at from n → Gathers s f₀ m u u' f → n ≤ length u → (n ≤ f.count) × (f.count ≤ length u)
-text-bounds {n = n} {f₀ = f₀} p g h =
+pub text_bounds : {s u u' : List ℕ} {from n m : ℕ} {f₀ f : Fields} → f₀ ≡ start_at from n → Gathers s f₀ m u u' f → n ≤ length u → (n ≤ f.count) × (f.count ≤ length u)
+text_bounds {n = n} {f₀ = f₀} p g h =
     let z : f₀.count ≡ n = ap (λ (x : Fields). x.count) p in
     (omega (arith, g.low), g.high (omega arith))
 
 module _ {s u u' : List ℕ} (d : AskedDelta) {r : AskedDelta} {from : ℕ} {f₀ f : Fields} (p : f₀ ≡ start_at from d.count) (g : Gathers s f₀ 1 u u' f) where
-  pub text-taken : d.count ≤ length u → r ≡ withOp d (Insert (Text d.count (f.count - d.count))) f f.count → ReadTo s u u' r (textOp s d from u)
+  pub text-taken : d.count ≤ length u → r ≡ with_op d (Insert (Text d.count (f.count - d.count))) f f.count → ReadTo s u u' r (text_op s d from u)
   text-taken h q =
       record {
-        is = ap {B = Taken} (λ (x : AskedDelta). record { asked = x; units = u' }) q ∙ ap (withText d) (g.is ∙ ap (λ (y : Fields). gather (length s + 1) s 1 y u) p);
+        is = ap {B = Taken} (λ (x : AskedDelta). record { asked = x; units = u' }) q ∙ ap (with_text d) (g.is ∙ ap (λ (y : Fields). gather (length s + 1) s 1 y u) p);
         within = rw q g.at;
-        high = rw q (text-bounds p g h).1;
+        high = rw q (text_bounds p g h).1;
         long = g.long;
       }
 
 module _ {s : List ℕ} {from : ℕ} {n : Numbered} (h : NumberIs s from n) (d : AskedDelta) (c : ℕ) where
-  whole : (m : Number) → n.number ≡ m → numberedWith s d c m n.next ≡ numberedOp s d from c
-  whole m e = ap (λ (x : Number). numberedWith s d c x n.next) (sym e) ∙ ap (λ (x : Numbered). numberedWith s d c x.number x.next) h.is
+  whole : (m : Number) → n.number ≡ m → numbered_with s d c m n.next ≡ numbered_op s d from c
+  whole m e = ap (λ (x : Number). numbered_with s d c x n.next) (sym e) ∙ ap (λ (x : Numbered). numbered_with s d c x.number x.next) h.is
 
-  pub numbered-none : {r : AskedDelta} → n.number ≡ NoNumber → r ≡ stoppedOps d n.next 3 → NumberedIs s d from c r
+  pub numbered-none : {r : AskedDelta} → n.number ≡ NoNumber → r ≡ stopped_ops d n.next 3 → NumberedIs s d from c r
   numbered-none e p = record { is = p ∙ whole NoNumber e; within = rw p h.high; count = rw p }
 
   module _ {k m : ℕ} {f₀ f : Fields} {u' : List ℕ} {op : Op} {r : AskedDelta} (e : n.number ≡ Is k) (p : f₀ ≡ start_at n.next 0)
-      (q : m ≡ opMarks c) (g : Gathers s f₀ m [] u' f) where
-    pub numbered-some : op ≡ op_of c k → r ≡ withOp d op f d.count → NumberedIs s d from c r
+      (q : m ≡ op_marks c) (g : Gathers s f₀ m [] u' f) where
+    pub numbered-some : op ≡ op_of c k → r ≡ with_op d op f d.count → NumberedIs s d from c r
     numbered-some o t =
         let got = g.is ∙ ap₂ (λ (x : ℕ) (y : Fields). gather (length s + 1) s x y []) q p in
         record {
-          is = t ∙ ap₂ (λ (x : Op) (y : Fields). withOp d x y d.count) o (ap (λ (x : Gathered). x.fields) got) ∙ whole (Is k) e;
+          is = t ∙ ap₂ (λ (x : Op) (y : Fields). with_op d x y d.count) o (ap (λ (x : Gathered). x.fields) got) ∙ whole (Is k) e;
           within = rw t g.at;
           count = rw t;
         }
 
 -- ---- by its letter
 
-pub numbered-read : {s u : List ℕ} {d r : AskedDelta} {from c : ℕ} → NumberedIs s d from c r → d.count ≤ length u → ReadTo s u u r (opBy Numbers s d from c u)
+pub numbered-read : {s u : List ℕ} {d r : AskedDelta} {from c : ℕ} → NumberedIs s d from c r → d.count ≤ length u → ReadTo s u u r (op_by Numbers s d from c u)
 numbered-read {u = u} h l =
     record {
       is = ap {B = Taken} (λ (x : AskedDelta). record { asked = x; units = u }) h.is;
@@ -70,7 +70,7 @@ numbered-read {u = u} h l =
       long = refl;
     }
 
-pub stopped-read : {s u : List ℕ} (d : AskedDelta) {r : AskedDelta} (at end : ℕ) → r ≡ stoppedOps d at end → at ≤ length s → d.count ≤ length u → ReadTo s u u r (record { asked = stoppedOps d at end; units = u })
+pub stopped-read : {s u : List ℕ} (d : AskedDelta) {r : AskedDelta} (at end : ℕ) → r ≡ stopped_ops d at end → at ≤ length s → d.count ≤ length u → ReadTo s u u r (record { asked = stopped_ops d at end; units = u })
 stopped-read {u = u} d at end p h l =
     record {
       is = ap {B = Taken} (λ (x : AskedDelta). record { asked = x; units = u }) p;
@@ -82,18 +82,18 @@ stopped-read {u = u} d at end p h l =
 pub to : {s u u' : List ℕ} {r : AskedDelta} {t t' : Taken} → ReadTo s u u' r t → t ≡ t' → ReadTo s u u' r t'
 to h e = record { is = h.is ∙ e; within = h.within; high = h.high; long = h.long }
 
-pub op-by : {s u u' : List ℕ} (d : AskedDelta) {r : AskedDelta} {at c : ℕ} {w : Found} {k : Sort} → WordIs s at w → c ≡ name_of s w → k ≡ sortOf c → (x : Sort) → k ≡ x
-    → ReadTo s u u' r (opBy x s d w.end c u) → ReadTo s u u' r (opIn s d (word_at s at) u)
+pub op-by : {s u u' : List ℕ} (d : AskedDelta) {r : AskedDelta} {at c : ℕ} {w : Found} {k : Sort} → WordIs s at w → c ≡ name_of s w → k ≡ sort_of c → (x : Sort) → k ≡ x
+    → ReadTo s u u' r (op_by x s d w.end c u) → ReadTo s u u' r (op_in s d (word_at s at) u)
 op-by {s} {u} d {at = at} {c = c} {w = w} h n e x f t =
     to t
-    (ap (λ (y : Sort). opBy y s d w.end c u) (sym f ∙ e)
-    ∙ ap (λ (y : ℕ). opBy (sortOf y) s d w.end y u) n
-    ∙ ap (λ (y : Found). opIn s d y u) h.is)
+    (ap (λ (y : Sort). op_by y s d w.end c u) (sym f ∙ e)
+    ∙ ap (λ (y : ℕ). op_by (sort_of y) s d w.end y u) n
+    ∙ ap (λ (y : Found). op_in s d y u) h.is)
 
 -- ---- the walk
 
 pub record Ordering (s : List ℕ) (d₀ : AskedDelta) (u₀ : List ℕ) (d : AskedDelta) (u : List ℕ) (left : ℕ) : Type 0 where
-  pub rest : allOps left s d u ≡ allOps (length s + 1) s d₀ u₀
+  pub rest : all_ops left s d u ≡ all_ops (length s + 1) s d₀ u₀
   pub within : d.at ≤ length s
   pub high : d.count ≤ length u₀
   pub long : length u ≡ length u₀
@@ -103,33 +103,33 @@ module _ {s : List ℕ} {d₀ : AskedDelta} {u₀ : List ℕ} where
   ordering-start h l = record { rest = refl; within = h; high = l; long = refl }
 
   module _ {d : AskedDelta} {u : List ℕ} {left : ℕ} (w : Ordering s d₀ u₀ d u left) where
-    ended : record { asked = d; units = u } ≡ allOps left s d u → ReadTo s u₀ u d (allOps (length s + 1) s d₀ u₀)
+    ended : record { asked = d; units = u } ≡ all_ops left s d u → ReadTo s u₀ u d (all_ops (length s + 1) s d₀ u₀)
     ended e = record { is = e ∙ w.rest; within = w.within; high = w.high; long = w.long }
 
-    stays : (n : ℕ) → (d.end ≡ 2 → ⊥) → record { asked = d; units = u } ≡ allOps n s d u
-    unfolding allOps
+    stays : (n : ℕ) → (d.end ≡ 2 → ⊥) → record { asked = d; units = u } ≡ all_ops n s d u
+    unfolding all_ops
     stays zero h = refl
     stays (suc n) h = simp (ne_eqb d.end 2 h)
 
-    none : (n : ℕ) → n ≡ 0 → record { asked = d; units = u } ≡ allOps n s d u
-    unfolding allOps
+    none : (n : ℕ) → n ≡ 0 → record { asked = d; units = u } ≡ all_ops n s d u
+    unfolding all_ops
     none zero h = refl
     none (suc n) h = absurd (omega arith)
 
-    pub ordering-stop : (d.end ≡ 2 → ⊥) → ReadTo s u₀ u d (allOps (length s + 1) s d₀ u₀)
+    pub ordering-stop : (d.end ≡ 2 → ⊥) → ReadTo s u₀ u d (all_ops (length s + 1) s d₀ u₀)
     ordering-stop h = ended (stays left h)
 
-    pub ordering-done : left ≡ 0 → ReadTo s u₀ u d (allOps (length s + 1) s d₀ u₀)
+    pub ordering-done : left ≡ 0 → ReadTo s u₀ u d (all_ops (length s + 1) s d₀ u₀)
     ordering-done z = ended (none left z)
 
-    turn : (n : ℕ) → 0 < n → d.end ≡ 2 → (t : Taken) → t ≡ opIn s d (word_at s d.at) u → allOps n s d u ≡ allOps (n - 1) s t.asked t.units
-    unfolding allOps
+    turn : (n : ℕ) → 0 < n → d.end ≡ 2 → (t : Taken) → t ≡ op_in s d (word_at s d.at) u → all_ops n s d u ≡ all_ops (n - 1) s t.asked t.units
+    unfolding all_ops
     turn zero h z t e = absurd (omega arith)
     turn (suc n) h z t e =
         let m : suc n - 1 ≡ n = omega arith in
         rw (eq-eqb d.end 2 z, m, e)
 
-    pub ordering-step : {r : AskedDelta} {u' : List ℕ} → 0 < left → d.end ≡ 2 → ReadTo s u u' r (opIn s d (word_at s d.at) u) → Ordering s d₀ u₀ r u' (left - 1)
+    pub ordering-step : {r : AskedDelta} {u' : List ℕ} → 0 < left → d.end ≡ 2 → ReadTo s u u' r (op_in s d (word_at s d.at) u) → Ordering s d₀ u₀ r u' (left - 1)
     ordering-step {r} {u'} h z t =
         record {
           rest = sym (turn left h z (record { asked = r; units = u' }) t.is) ∙ w.rest;
@@ -140,20 +140,20 @@ module _ {s : List ℕ} {d₀ : AskedDelta} {u₀ : List ℕ} where
 
 -- ---- the line
 
-pub ops-by : {s u u' : List ℕ} (from : ℕ) {r : AskedDelta} {x : Read} (y : Field) → x ≡ readAt s from → x.field ≡ y → ReadTo s u u' r (opsBy y s from u) → ReadTo s u u' r (deltaIn s from u)
+pub ops-by : {s u u' : List ℕ} (from : ℕ) {r : AskedDelta} {x : Read} (y : Field) → x ≡ read_at s from → x.field ≡ y → ReadTo s u u' r (ops_by y s from u) → ReadTo s u u' r (delta_in s from u)
 ops-by {s} {u} from y e f t =
     to t
-    (ap (λ (z : Field). opsBy z s from u) (sym f) ∙ ap (λ (z : Read). opsBy z.field s from u) e)
+    (ap (λ (z : Field). ops_by z s from u) (sym f) ∙ ap (λ (z : Read). ops_by z.field s from u) e)
 
-pub ops-start : (s u : List ℕ) {from : ℕ} {d : AskedDelta} → d ≡ startOps from → from ≤ length s → length u < 4294967296 → (d.at ≤ length s) × ((d.count ≤ length u) × (length u < 4294967296))
+pub ops-start : (s u : List ℕ) {from : ℕ} {d : AskedDelta} → d ≡ start_ops from → from ≤ length s → length u < 4294967296 → (d.at ≤ length s) × ((d.count ≤ length u) × (length u < 4294967296))
 ops-start s u p h l = (rw p h, (rw p (omega arith), l))
 
-module _ {s u : List ℕ} {from : ℕ} {d : AskedDelta} (p : d ≡ startOps from) where
-  pub stopped-from : {r : AskedDelta} {end : ℕ} → r ≡ stoppedOps d from end → from ≤ length s → ReadTo s u u r (record { asked = stoppedOps (startOps from) from end; units = u })
-  stopped-from {end = end} q h = stopped-read (startOps from) from end (q ∙ ap (λ (x : AskedDelta). stoppedOps x from end) p) h (omega arith)
+module _ {s u : List ℕ} {from : ℕ} {d : AskedDelta} (p : d ≡ start_ops from) where
+  pub stopped-from : {r : AskedDelta} {end : ℕ} → r ≡ stopped_ops d from end → from ≤ length s → ReadTo s u u r (record { asked = stopped_ops (start_ops from) from end; units = u })
+  stopped-from {end = end} q h = stopped-read (start_ops from) from end (q ∙ ap (λ (x : AskedDelta). stopped_ops x from end) p) h (omega arith)
 
-  pub ops-all : {u' : List ℕ} {r : AskedDelta} → ReadTo s u u' r (allOps (length s + 1) s d u) → ReadTo s u u' r (allOps (length s + 1) s (startOps from) u)
-  ops-all t = to t (ap (λ (x : AskedDelta). allOps (length s + 1) s x u) p)
+  pub ops-all : {u' : List ℕ} {r : AskedDelta} → ReadTo s u u' r (all_ops (length s + 1) s d u) → ReadTo s u u' r (all_ops (length s + 1) s (start_ops from) u)
+  ops-all t = to t (ap (λ (x : AskedDelta). all_ops (length s + 1) s x u) p)
 
-pub delta-read : {s u u' : List ℕ} {r : AskedDelta} {w : Found} → WordIs s 0 w → ReadTo s u u' r (deltaIn s w.end u) → ReadTo s u u' r (deltaIn s (word_at s 0).end u)
-delta-read {s} {u} h t = to t (ap (λ (x : Found). deltaIn s x.end u) h.is)
+pub delta-read : {s u u' : List ℕ} {r : AskedDelta} {w : Found} → WordIs s 0 w → ReadTo s u u' r (delta_in s w.end u) → ReadTo s u u' r (delta_in s (word_at s 0).end u)
+delta-read {s} {u} h t = to t (ap (λ (x : Found). delta_in s x.end u) h.is)

@@ -2,7 +2,7 @@
 use Rattle.std.specs.Prelude.{◌≡◌, true, false, cond, List, ℕ, ◌+◌, ◌*◌, ◌≤◌, eqb, ltb, length, take, drop}
 use Rattle.words.specs.Words.{word_at}
 use Rattle.words.specs.Numbers.{number_of}
-use Rattle.lines.specs.Fields.{part, readAt}
+use Rattle.lines.specs.Fields.{part, read_at}
 use Rattle.lines.specs.Calls.{name_of}
 use Rattle.words.specs.declared.words.Word.{Word as Found}
 use Rattle.words.specs.declared.numbers.Number.{Number}
@@ -19,45 +19,45 @@ halves (Is h) NoNumber = Wrong
 halves NoNumber n = Wrong
 
 -- Sixteen hexadecimal digits are a two's complement of 64 bits.
-abbrev pub integerOf : List ℕ → Entry
-integerOf w = cond (eqb (length w) 16) (halves (number_of 16 (take 8 w)) (number_of 16 (drop 8 w))) Wrong
+abbrev pub integer_of : List ℕ → Entry
+integer_of w = cond (eqb (length w) 16) (halves (number_of 16 (take 8 w)) (number_of 16 (drop 8 w))) Wrong
 
 -- m and v ask what a number stands for; t asks for false by 0 and for true by 1.
-abbrev pub numberedEntry : ℕ → ℕ → Entry
-numberedEntry c n =
+abbrev pub numbered_entry : ℕ → ℕ → Entry
+numbered_entry c n =
     cond (eqb c 109) (NameOf n) (cond (eqb c 118) (ValueOf n) (cond (eqb n 0) (Bool false) (cond (eqb n 1) (Bool true) Wrong)))
 
-abbrev pub numberEntry : ℕ → Number → Entry
-numberEntry c (Is n) = numberedEntry c n
-numberEntry c NoNumber = Wrong
+abbrev pub number_entry : ℕ → Number → Entry
+number_entry c (Is n) = numbered_entry c n
+number_entry c NoNumber = Wrong
 
 -- Behind g an integer, else a decimal number.
-abbrev pub wordEntry : ℕ → List ℕ → Entry
-wordEntry c w = cond (eqb c 103) (integerOf w) (numberEntry c (number_of 10 w))
+abbrev pub word_entry : ℕ → List ℕ → Entry
+word_entry c w = cond (eqb c 103) (integer_of w) (number_entry c (number_of 10 w))
 
-abbrev pub lastEntry : Field → Entry → Entry
-lastEntry Line e = e
-lastEntry Op e = Wrong
-lastEntry (Word p) e = Wrong
+abbrev pub last_entry : Field → Entry → Entry
+last_entry Line e = e
+last_entry Op e = Wrong
+last_entry (Word p) e = Wrong
 
-abbrev pub endedIn : List ℕ → Found → ℕ → Entry
-endedIn s w c = lastEntry (readAt s w.end).field (wordEntry c (part s w.start w.end))
+abbrev pub ended_in : List ℕ → Found → ℕ → Entry
+ended_in s w c = last_entry (read_at s w.end).field (word_entry c (part s w.start w.end))
 
 -- One word, and then the end of the line.
-abbrev pub endedEntry : List ℕ → ℕ → ℕ → Entry
-endedEntry s from c = endedIn s (word_at s from) c
+abbrev pub ended_entry : List ℕ → ℕ → ℕ → Entry
+ended_entry s from c = ended_in s (word_at s from) c
 
 -- k asks for a name, s for a string: all that stands behind.
-abbrev pub entryBy : List ℕ → ℕ → ℕ → Entry
-entryBy s from c = cond (eqb c 107) Name (cond (eqb c 115) String (endedEntry s from c))
+abbrev pub entry_by : List ℕ → ℕ → ℕ → Entry
+entry_by s from c = cond (eqb c 107) Name (cond (eqb c 115) String (ended_entry s from c))
 
 -- One byte parts a letter from what stands behind it.
 abbrev pub behind : ℕ → ℕ → ℕ
 behind n end = cond (ltb end n) (end + 1) end
 
-abbrev pub entryIn : List ℕ → Found → AskedEntry
-entryIn s w = record { entry = entryBy s w.end (name_of s w); at = behind (length s) w.end }
+abbrev pub entry_in : List ℕ → Found → AskedEntry
+entry_in s w = record { entry = entry_by s w.end (name_of s w); at = behind (length s) w.end }
 
 pub record EntryIs (s : List ℕ) (r : AskedEntry) : Type 0 where
-  pub is : r ≡ entryIn s (word_at s 0)
+  pub is : r ≡ entry_in s (word_at s 0)
   pub within : r.at ≤ length s

@@ -1,7 +1,7 @@
 -- The units and attributes of a line, word by word.
 use Rattle.std.specs.Prelude.{◌≡◌, cond, List, ℕ, zero, suc, ◌+◌, ◌-◌, ◌≤◌, eqb, ltb, length, get_or, take, drop, set}
 use Rattle.sets.specs.Sets.{empty}
-use Rattle.attrs.specs.Packed.{packed, withAt}
+use Rattle.attrs.specs.Packed.{packed, with_at}
 use Rattle.words.specs.Words.{word_at}
 use Rattle.words.specs.declared.words.Word.{Word as Found}
 use Rattle.words.specs.Numbers.{piece_of}
@@ -13,8 +13,8 @@ use Rattle.lines.specs.declared.fields.Read.{Read}
 use Rattle.lines.specs.declared.fields.Fields.{Fields}
 
 -- The byte of a word of one byte; 0 for any other.
-abbrev pub letterOf : List ℕ → ℕ
-letterOf w = cond (eqb (length w) 1) (get_or w 0 0) 0
+abbrev pub letter_of : List ℕ → ℕ
+letter_of w = cond (eqb (length w) 1) (get_or w 0 0) 0
 
 -- The bytes of s from a up to e.
 abbrev pub part : List ℕ → ℕ → ℕ → List ℕ
@@ -22,16 +22,16 @@ part s a e = take (e - a) (drop a s)
 
 -- A `;` by itself ends an operation.
 unfoldable pub field_of : List ℕ → ℕ → ℕ → Field
-field_of s a e = cond (eqb a e) Line (cond (eqb (letterOf (part s a e)) 59) Op (Word (piece_of (part s a e))))
+field_of s a e = cond (eqb a e) Line (cond (eqb (letter_of (part s a e)) 59) Op (Word (piece_of (part s a e))))
 
 abbrev pub read_of : List ℕ → Found → Read
 read_of s w = record { field = field_of s w.start w.end; next = w.end }
 
-abbrev pub readAt : List ℕ → ℕ → Read
-readAt s from = read_of s (word_at s from)
+abbrev pub read_at : List ℕ → ℕ → Read
+read_at s from = read_of s (word_at s from)
 
 pub record ReadIs (s : List ℕ) (from : ℕ) (r : Read) : Type 0 where
-  pub is : r ≡ readAt s from
+  pub is : r ≡ read_at s from
   pub high : r.next ≤ length s
 
 -- ---- what one word adds
@@ -39,49 +39,49 @@ pub record ReadIs (s : List ℕ) (from : ℕ) (r : Read) : Type 0 where
 abbrev pub start_at : ℕ → ℕ → Fields
 start_at at count = record { at = at; count = count; attrs = packed empty; refusal = 0; end = 0 }
 
-abbrev pub stoppedAt : Fields → ℕ → ℕ → Fields
-stoppedAt f at end = record { at = at; count = f.count; attrs = f.attrs; refusal = f.refusal; end = end }
+abbrev pub stopped_at : Fields → ℕ → ℕ → Fields
+stopped_at f at end = record { at = at; count = f.count; attrs = f.attrs; refusal = f.refusal; end = end }
 
 abbrev pub or_else : ℕ → ℕ → ℕ
 or_else zero other = other
 or_else (suc n) other = suc n
 
 -- An attribute out of range leaves the set as it is, and its refusal stays.
-abbrev pub pairField : Fields → ℕ → ℕ → ℕ → ℕ → Fields
-pairField f at marks k v =
-    cond (eqb marks 0) (stoppedAt f at 3)
-    (record { at = at; count = f.count; attrs = (withAt f.attrs k v).attrs; refusal = or_else (withAt f.attrs k v).refusal f.refusal; end = 0 })
+abbrev pub pair_field : Fields → ℕ → ℕ → ℕ → ℕ → Fields
+pair_field f at marks k v =
+    cond (eqb marks 0) (stopped_at f at 3)
+    (record { at = at; count = f.count; attrs = (with_at f.attrs k v).attrs; refusal = or_else (with_at f.attrs k v).refusal f.refusal; end = 0 })
 
 -- A unit where there is room.
-abbrev pub unitField : Fields → ℕ → ℕ → Fields
-unitField f at room =
+abbrev pub unit_field : Fields → ℕ → ℕ → Fields
+unit_field f at room =
     cond (ltb f.count room)
     (record { at = at; count = f.count + 1; attrs = f.attrs; refusal = f.refusal; end = 0 })
-    (stoppedAt f at 3)
+    (stopped_at f at 3)
 
-abbrev pub pieceField : Fields → ℕ → ℕ → ℕ → Piece → Fields
-pieceField f at marks room (Unit u) = unitField f at room
-pieceField f at marks room (Pair k v) = pairField f at marks k v
-pieceField f at marks room Nothing = stoppedAt f at 3
+abbrev pub piece_field : Fields → ℕ → ℕ → ℕ → Piece → Fields
+piece_field f at marks room (Unit u) = unit_field f at room
+piece_field f at marks room (Pair k v) = pair_field f at marks k v
+piece_field f at marks room Nothing = stopped_at f at 3
 
-abbrev pub withField : Fields → ℕ → ℕ → ℕ → Field → Fields
-withField f at marks room Line = stoppedAt f at 1
-withField f at marks room Op = stoppedAt f at 2
-withField f at marks room (Word p) = pieceField f at marks room p
+abbrev pub with_field : Fields → ℕ → ℕ → ℕ → Field → Fields
+with_field f at marks room Line = stopped_at f at 1
+with_field f at marks room Op = stopped_at f at 2
+with_field f at marks room (Word p) = piece_field f at marks room p
 
-abbrev pub pieceUnits : List ℕ → ℕ → Piece → List ℕ
-pieceUnits units n (Unit u) = set units n u
-pieceUnits units n (Pair k v) = units
-pieceUnits units n Nothing = units
+abbrev pub piece_units : List ℕ → ℕ → Piece → List ℕ
+piece_units units n (Unit u) = set units n u
+piece_units units n (Pair k v) = units
+piece_units units n Nothing = units
 
-abbrev pub withUnits : List ℕ → ℕ → Field → List ℕ
-withUnits units n Line = units
-withUnits units n Op = units
-withUnits units n (Word p) = pieceUnits units n p
+abbrev pub with_units : List ℕ → ℕ → Field → List ℕ
+with_units units n Line = units
+with_units units n Op = units
+with_units units n (Word p) = piece_units units n p
 
 pub record Takes (f : Fields) (r : Read) (marks : ℕ) (before after : List ℕ) (g : Fields) : Type 0 where
-  pub is : g ≡ withField f r.next marks (length before) r.field
-  pub units : after ≡ withUnits before f.count r.field
+  pub is : g ≡ with_field f r.next marks (length before) r.field
+  pub units : after ≡ with_units before f.count r.field
   pub at : g.at ≡ r.next
   pub low : f.count ≤ g.count
   pub high : f.count ≤ length before → g.count ≤ length before
@@ -98,8 +98,8 @@ gather zero s marks f units = record { fields = f; units = units }
 gather (suc n) s marks f units =
     cond (eqb f.end 0)
     (gather n s marks
-    (withField f (readAt s f.at).next marks (length units) (readAt s f.at).field)
-    (withUnits units f.count (readAt s f.at).field))
+    (with_field f (read_at s f.at).next marks (length units) (read_at s f.at).field)
+    (with_units units f.count (read_at s f.at).field))
     (record { fields = f; units = units })
 
 pub record Gathers (s : List ℕ) (f : Fields) (marks : ℕ) (before after : List ℕ) (g : Fields) : Type 0 where

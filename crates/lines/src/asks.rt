@@ -1,6 +1,6 @@
 // What a line asks of the table of names and values.
 ghost use Rattle.std.specs.Prelude.{◌≡◌, ◌≤◌, length};
-ghost use Rattle.lines.specs.Asks.{integerOf, numberedEntry, wordEntry, endedEntry, entryBy, behind, EntryIs};
+ghost use Rattle.lines.specs.Asks.{integer_of, numbered_entry, word_entry, ended_entry, entry_by, behind, EntryIs};
 
 use crate::fields::{Field, letter, read_field};
 use words::numbers::{Number, read_number};
@@ -26,7 +26,7 @@ pub struct AskedEntry {
 
 // Sixteen hexadecimal digits.
 fn integer(w: &[u8]) -> Entry
-    ensures { result ≡ integerOf w.now }
+    ensures { result ≡ integer_of w.now }
 {
     if w.len() != 16 {
         return Entry::Wrong;
@@ -43,7 +43,7 @@ fn integer(w: &[u8]) -> Entry
 }
 
 fn numbered(name: u8, n: u32) -> Entry
-    ensures { result ≡ numberedEntry name n }
+    ensures { result ≡ numbered_entry name n }
 {
     if name == b'm' {
         return Entry::NameOf(n);
@@ -61,7 +61,7 @@ fn numbered(name: u8, n: u32) -> Entry
 }
 
 fn worded(w: &[u8], name: u8) -> Entry
-    ensures { result ≡ wordEntry name w.now }
+    ensures { result ≡ word_entry name w.now }
 {
     if name == b'g' {
         return integer(w);
@@ -76,7 +76,7 @@ fn worded(w: &[u8], name: u8) -> Entry
 // One word, and then the end of the line.
 fn ended(s: &[u8], from: usize, name: u8) -> Entry
     requires { from ≤ length s.now }
-    ensures { result ≡ endedEntry s.now from name }
+    ensures { result ≡ ended_entry s.now from name }
 {
     let w = next_word(s, from);
     let start = w.start;
@@ -92,7 +92,7 @@ fn ended(s: &[u8], from: usize, name: u8) -> Entry
 
 fn named_entry(s: &[u8], from: usize, name: u8) -> Entry
     requires { from ≤ length s.now }
-    ensures { result ≡ entryBy s.now from name }
+    ensures { result ≡ entry_by s.now from name }
 {
     if name == b'k' {
         return Entry::Name;

@@ -1,6 +1,6 @@
 // The call that a line asks for.
 ghost use Rattle.std.specs.Prelude.{◌≡◌, ◌≤◌, length};
-ghost use Rattle.lines.specs.Calls.{askingOf, kind_of, NumberIs, bareAsked, asked_of, plain_of, plainAsked, textCall, TextAsked, rangedOf, marksOf, RangedAsked, CallAsked};
+ghost use Rattle.lines.specs.Calls.{asking_of, kind_of, NumberIs, bare_asked, asked_of, plain_of, plain_asked, text_call, TextAsked, ranged_of, marks_of, RangedAsked, CallAsked};
 
 use crate::fields::{Field, Fields, letter, read_field, read_fields};
 use attrs::Attrs;
@@ -51,7 +51,7 @@ pub enum Kind {
 
 // Letters of the table.
 fn asking(name: u8) -> Kind
-    ensures { result ≡ askingOf name }
+    ensures { result ≡ asking_of name }
 {
     if name == b'g' {
         return Kind::Entry;
@@ -133,7 +133,7 @@ pub(crate) fn number_at(s: &[u8], from: usize) -> Numbered
 
 impl Asked {
     fn bare(call: Call) -> Asked
-        ensures { result ≡ bareAsked call }
+        ensures { result ≡ bare_asked call }
     {
         Asked {
             call,
@@ -177,7 +177,7 @@ fn plain(name: u8) -> Call
 
 fn plain_call(s: &[u8], from: usize, name: u8) -> Asked
     requires { from ≤ length s.now }
-    ensures { result ≡ plainAsked s.now from name }
+    ensures { result ≡ plain_asked s.now from name }
 {
     let r = read_field(s, from);
     let field = r.field;
@@ -189,7 +189,7 @@ fn plain_call(s: &[u8], from: usize, name: u8) -> Asked
 }
 
 fn text(name: u8, index: u32) -> Call
-    ensures { result ≡ textCall name index }
+    ensures { result ≡ text_call name index }
 {
     if name == b'i' {
         return Call::Insert(index);
@@ -199,7 +199,7 @@ fn text(name: u8, index: u32) -> Call
 
 // Whether attributes may stand in the line: not behind plain text, a plain embed or a removal.
 fn marks(name: u8) -> u32
-    ensures { result ≡ marksOf name }
+    ensures { result ≡ marks_of name }
 {
     if name == b'i' {
         return 0;
@@ -228,7 +228,7 @@ fn text_call(s: &[u8], from: usize, name: u8, units: &mut [u16]) -> Asked
 }
 
 fn ranged(name: u8, index: u32, n: u32) -> Call
-    ensures { result ≡ rangedOf name index n }
+    ensures { result ≡ ranged_of name index n }
 {
     if name == b'e' {
         return Call::Embed { index, n };

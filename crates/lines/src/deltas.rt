@@ -2,7 +2,7 @@
 ghost use Rattle.std.specs.Prelude.{◌≡◌, ◌+◌, ◌<◌, ◌≤◌, length};
 ghost use Rattle.lines.specs.Fields.{or_else};
 ghost use Rattle.words.specs.Words.{word_at};
-ghost use Rattle.lines.specs.Deltas.{startOps, stoppedOps, longerOf, withOp, textOp, opMarks, op_of, NumberedIs, sortOf, opIn, allOps, deltaIn, ReadTo};
+ghost use Rattle.lines.specs.Deltas.{start_ops, stopped_ops, longer_of, with_op, text_op, op_marks, op_of, NumberedIs, sort_of, op_in, all_ops, delta_in, ReadTo};
 
 use crate::calls::number_at;
 use crate::fields::{Field, Fields, letter, read_field, read_fields};
@@ -29,7 +29,7 @@ pub enum Sort {
 }
 
 fn longer(p: Pushed) -> Delta
-    ensures { result ≡ longerOf p }
+    ensures { result ≡ longer_of p }
 {
     let mut delta = p.delta;
     if p.refusal == 0 {
@@ -47,7 +47,7 @@ fn or_else(refusal: u32, other: u32) -> u32
 
 impl AskedDelta {
     fn start(at: usize) -> AskedDelta
-        ensures { result ≡ startOps at }
+        ensures { result ≡ start_ops at }
     {
         AskedDelta {
             delta: Delta::empty(),
@@ -59,7 +59,7 @@ impl AskedDelta {
     }
 
     fn stopped(self, at: usize, end: u32) -> AskedDelta
-        ensures { result ≡ stoppedOps self at end }
+        ensures { result ≡ stopped_ops self at end }
     {
         let delta = self.delta;
         AskedDelta {
@@ -72,7 +72,7 @@ impl AskedDelta {
     }
 
     fn with_op(self, op: Op, f: Fields, count: usize) -> AskedDelta
-        ensures { result ≡ withOp self op f count }
+        ensures { result ≡ with_op self op f count }
     {
         let old = self.delta;
         let attrs = f.attrs;
@@ -91,7 +91,7 @@ fn text_op(s: &[u8], d: AskedDelta, from: usize, units: &mut [u16]) -> AskedDelt
     requires from_in_bounds { from ≤ length s.now }
     requires count_in_bounds { d.count ≤ length units.old }
     requires units_len_bound { length units.old < 4294967296 }
-    ensures { ReadTo s.now units.old units.new result (textOp s.now d from units.old) }
+    ensures { ReadTo s.now units.old units.new result (text_op s.now d from units.old) }
 {
     let start = d.count;
     let f = read_fields(s, Fields::start(from, start), 1, units);
@@ -105,7 +105,7 @@ fn text_op(s: &[u8], d: AskedDelta, from: usize, units: &mut [u16]) -> AskedDelt
 
 // Whether attributes may stand behind the number.
 fn marks_of(name: u8) -> u32
-    ensures { result ≡ opMarks name }
+    ensures { result ≡ op_marks name }
 {
     if name == b'd' { 0 } else { 1 }
 }
@@ -139,7 +139,7 @@ fn numbered_op(s: &[u8], d: AskedDelta, from: usize, name: u8) -> AskedDelta
 }
 
 fn sort_of(name: u8) -> Sort
-    ensures { result ≡ sortOf name }
+    ensures { result ≡ sort_of name }
 {
     if name == b'i' {
         return Sort::Texts;
@@ -160,7 +160,7 @@ fn one_op(s: &[u8], d: AskedDelta, units: &mut [u16]) -> AskedDelta
     requires at_in_bounds { d.at ≤ length s.now }
     requires count_in_bounds { d.count ≤ length units.old }
     requires units_len_bound { length units.old < 4294967296 }
-    ensures { ReadTo s.now units.old units.new result (opIn s.now d (word_at s.now d.at) units.old) }
+    ensures { ReadTo s.now units.old units.new result (op_in s.now d (word_at s.now d.at) units.old) }
 {
     let at = d.at;
     let w = next_word(s, at);
@@ -180,7 +180,7 @@ fn all_ops(s: &[u8], from: AskedDelta, units: &mut [u16]) -> AskedDelta
     requires at_in_bounds { from.at ≤ length s.now }
     requires count_in_bounds { from.count ≤ length units.old }
     requires units_len_bound { length units.old < 4294967296 }
-    ensures { ReadTo s.now units.old units.new result (allOps (length s.now + 1) s.now from units.old) }
+    ensures { ReadTo s.now units.old units.new result (all_ops (length s.now + 1) s.now from units.old) }
 {
     let mut d = from;
     let mut left = s.len() + 1;
@@ -197,7 +197,7 @@ fn all_ops(s: &[u8], from: AskedDelta, units: &mut [u16]) -> AskedDelta
 fn ops_from(s: &[u8], from: usize, units: &mut [u16]) -> AskedDelta
     requires from_in_bounds { from ≤ length s.now }
     requires units_len_bound { length units.old < 4294967296 }
-    ensures { ReadTo s.now units.old units.new result (deltaIn s.now from units.old) }
+    ensures { ReadTo s.now units.old units.new result (delta_in s.now from units.old) }
 {
     let d = AskedDelta::start(from);
     let r = read_field(s, from);
@@ -212,7 +212,7 @@ fn ops_from(s: &[u8], from: usize, units: &mut [u16]) -> AskedDelta
 // The operations behind the letter of the line, with the units of their texts at the front of the lent ones. The line is a delta where `end` is 1.
 pub fn read_delta(s: &[u8], units: &mut [u16]) -> AskedDelta
     requires { length units.old < 4294967296 }
-    ensures { ReadTo s.now units.old units.new result (deltaIn s.now (word_at s.now 0).end units.old) }
+    ensures { ReadTo s.now units.old units.new result (delta_in s.now (word_at s.now 0).end units.old) }
 {
     let w = next_word(s, 0);
     ops_from(s, w.end, units)

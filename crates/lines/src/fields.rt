@@ -1,6 +1,6 @@
 // Units of text and attributes, word by word, up to the end of a line or of an operation.
 ghost use Rattle.std.specs.Prelude.{◌≡◌, ◌≤◌, length, set};
-ghost use Rattle.lines.specs.Fields.{letterOf, ReadIs, start_at, stoppedAt, pairField, unitField, Takes, Gathers};
+ghost use Rattle.lines.specs.Fields.{letter_of, ReadIs, start_at, stopped_at, pair_field, unit_field, Takes, Gathers};
 
 use attrs::Attrs;
 use words::numbers::{Piece, read_piece};
@@ -33,7 +33,7 @@ pub struct Fields {
 
 // The byte of a word of one byte; 0 for any other.
 pub fn letter(w: &[u8]) -> u8
-    ensures { result ≡ letterOf w.now }
+    ensures { result ≡ letter_of w.now }
 {
     if w.len() == 1 {
         return w[0];
@@ -82,7 +82,7 @@ impl Fields {
     }
 
     fn stopped(self, at: usize, end: u32) -> Fields
-        ensures { result ≡ stoppedAt self at end }
+        ensures { result ≡ stopped_at self at end }
     {
         let attrs = self.attrs;
         Fields {
@@ -95,7 +95,7 @@ impl Fields {
     }
 
     fn with_pair(self, at: usize, marks: u32, key: u32, value: u32) -> Fields
-        ensures { result ≡ pairField self at marks key value }
+        ensures { result ≡ pair_field self at marks key value }
     {
         if marks == 0 {
             return self.stopped(at, 3);
@@ -122,7 +122,7 @@ impl Fields {
     }
 
     fn with_unit(self, at: usize, u: u16, units: &mut [u16]) -> Fields
-        ensures value { result ≡ unitField self at (length units.old) }
+        ensures value { result ≡ unit_field self at (length units.old) }
         ensures units_after { units.new ≡ set units.old self.count u }
     {
         let n = self.count;

@@ -13,12 +13,12 @@ use mir.Syntax.{w64}
 use mir.Val.{Fits}
 use mir.Facts.{of_z-to_z}
 use borrow.Author.Tests.{eqb-true, leb-true, lt-ltb, le-ltb}
-use Rattle.entries.specs.Entry.{length_at, kind_at, contentAt, entry_at}
+use Rattle.entries.specs.Entry.{length_at, kind_at, content_at, entry_at}
 use Rattle.entries.specs.Number.{low_bytes, number_of}
-use Rattle.entries.specs.Order.{fits, fitsAt}
+use Rattle.entries.specs.Order.{fits, fits_at}
 use Rattle.table.specs.declared.TableHead.{TableHead}
-use Rattle.table.specs.Value.{Value, bool, int, string, kind_of, contentOf}
-use Rattle.lookup.specs.Show.{value_of, bytes_of, case_of, givenName, givenValue, value_at, shownOf, name_of, stringOf}
+use Rattle.table.specs.Value.{Value, bool, int, string, kind_of, content_of}
+use Rattle.lookup.specs.Show.{value_of, bytes_of, case_of, given_name, given_value, value_at, shown_of, name_of, string_of}
 use Rattle.entries.proofs.Bits.{bytes_below, low-number}
 use Rattle.table.proofs.Tables.{both}
 use Rattle.lookup.proofs.Numbers.{Given, given-value, given-name, fits-at}
@@ -48,29 +48,29 @@ allowed k n b z f = is-bool (eqb k 1) refl (rw z at f)
     is-bool true e g = let p = both (eqb n 1) _ g in inl (eqb-true k 1 e, (eqb-true n 1 p.0, leb-true b 1 p.1))
     is-bool false e g = is-int (eqb k 2) refl g
 
-allowed-short : {k n b : ℕ} → Allowed k n b → n ≤ 32
-allowed-short (inl (ek, (en, eb))) = omega arith
-allowed-short (inr (inl (ek, en))) = omega arith
-allowed-short (inr (inr (ek, en))) = en
+allowed_short : {k n b : ℕ} → Allowed k n b → n ≤ 32
+allowed_short (inl (ek, (en, eb))) = omega arith
+allowed_short (inr (inl (ek, en))) = omega arith
+allowed_short (inr (inr (ek, en))) = en
 
 -- ---- an entry is that of the value which is read off it
-one_byte : (c : List ℕ) → length c ≡ 1 → get_or c 0 0 ≤ 1 → contentOf (value_of 1 c) ≡ c
-unfolding value_of contentOf number_of
+one_byte : (c : List ℕ) → length c ≡ 1 → get_or c 0 0 ≤ 1 → content_of (value_of 1 c) ≡ c
+unfolding value_of content_of number_of
 one_byte [] e l = absurd (omega arith)
 one_byte (zero ∷ []) e l = refl
 one_byte (suc zero ∷ []) e l = refl
 one_byte (suc (suc x) ∷ []) e l = absurd (omega arith)
 one_byte (x ∷ y ∷ c) e l = absurd (omega arith)
 
-eight-bytes : (c : List ℕ) → Bytes c → length c ≡ 8 → contentOf (value_of 2 c) ≡ c
-unfolding value_of contentOf
+eight-bytes : (c : List ℕ) → Bytes c → length c ≡ 8 → content_of (value_of 2 c) ≡ c
+unfolding value_of content_of
 eight-bytes c b e =
     let f : Fits w64 (number_of c) = record { fits = bytes_below 8 c b (omega arith) } in
     ap (low_bytes 8) (of_z-to_z f) ∙ ap (λ (n : ℕ). low_bytes n (number_of c)) (sym e) ∙ low-number c b
 
 pub entry-back : (k : ℕ) (c : List ℕ) (b : ℕ) → Bytes c → (0 < length c → b ≡ get_or c 0 0) → Allowed k (length c) b
-    → (kind_of (value_of k c) ≡ k) × (contentOf (value_of k c) ≡ c)
-unfolding value_of kind_of contentOf
+    → (kind_of (value_of k c) ≡ k) × (content_of (value_of k c) ≡ c)
+unfolding value_of kind_of content_of
 entry-back k c b small first (inl (ek, (en, eb))) =
     let f = first (omega arith) in
     rw ek (refl, one_byte c en (omega arith))
@@ -85,21 +85,21 @@ take-bytes (suc n) (x ∷ l) b zero = b 0
 take-bytes (suc n) (x ∷ l) b (suc i) = take-bytes n l (λ j. b (suc j)) i
 
 module _ (m : List ℕ) (s : ℕ) where
-  content-bytes : Bytes m → Bytes (contentAt m s)
-  unfolding contentAt
+  content-bytes : Bytes m → Bytes (content_at m s)
+  unfolding content_at
   content-bytes b = take-bytes (min (length_at m s) 32) (drop (s * 34 + 2) m) (λ i. rw get_or-drop (b (s * 34 + 2 + i)))
 
-  content-whole : length m ≡ 9214 → s < 271 → length_at m s ≤ 32 → length (contentAt m s) ≡ length_at m s
-  unfolding contentAt
+  content-whole : length m ≡ 9214 → s < 271 → length_at m s ≤ 32 → length (content_at m s) ≡ length_at m s
+  unfolding content_at
   content-whole e h l = rw (length-take, length-drop) (omega arith)
 
-  content-first : 0 < length_at m s → get_or m (s * 34 + 2) 0 ≡ get_or (contentAt m s) 0 0
-  unfolding contentAt
+  content-first : 0 < length_at m s → get_or m (s * 34 + 2) 0 ≡ get_or (content_at m s) 0 0
+  unfolding content_at
   content-first h =
       sym (get_or-take (min (length_at m s) 32) (drop (s * 34 + 2) m) 0 0 (omega arith) ∙ get_or-drop (s * 34 + 2) m 0 0 ∙ ap (λ (i : ℕ). get_or m i 0) (add-zero (s * 34 + 2)))
 
-  allowed_at : 16 ≤ s → fitsAt m s ≡ true → Allowed (kind_at m s) (length_at m s) (get_or m (s * 34 + 2) 0)
-  unfolding fitsAt
+  allowed_at : 16 ≤ s → fits_at m s ≡ true → Allowed (kind_at m s) (length_at m s) (get_or m (s * 34 + 2) 0)
+  unfolding fits_at
   allowed_at h f = go (eqb (kind_at m s) 0) refl (rw (le-ltb s 16 h) at f)
     where
       go : (t : Bool) → eqb (kind_at m s) 0 ≡ t → cond t false (fits (kind_at m s) (length_at m s) (get_or m (s * 34 + 2) 0)) ≡ true
@@ -107,22 +107,22 @@ module _ (m : List ℕ) (s : ℕ) where
       go true e g = absurd (let y : ◌≡◌ {A = ℕ} 0 1 = cc in omega arith)
       go false e g = allowed (kind_at m s) (length_at m s) (get_or m (s * 34 + 2) 0) e g
 
-  pub slot-back : Bytes m → length m ≡ 9214 → 16 ≤ s → s < 271 → fitsAt m s ≡ true
-      → entry_at m s ≡ kind_of (value_of (kind_at m s) (contentAt m s)) ∷ contentOf (value_of (kind_at m s) (contentAt m s))
+  pub slot-back : Bytes m → length m ≡ 9214 → 16 ≤ s → s < 271 → fits_at m s ≡ true
+      → entry_at m s ≡ kind_of (value_of (kind_at m s) (content_at m s)) ∷ content_of (value_of (kind_at m s) (content_at m s))
   unfolding entry_at
   slot-back b e h l f =
       let a = allowed_at h f in
-      let n = content-whole e l (allowed-short a) in
-      let back = entry-back (kind_at m s) (contentAt m s) (get_or m (s * 34 + 2) 0) (content-bytes b) (λ p. content-first (rw n at p)) (rw n a) in
+      let n = content-whole e l (allowed_short a) in
+      let back = entry-back (kind_at m s) (content_at m s) (get_or m (s * 34 + 2) 0) (content-bytes b) (λ p. content-first (rw n at p)) (rw n a) in
       sym (ap₂ (λ (k : ℕ) (c : List ℕ). k ∷ c) back.0 back.1)
 
-  name-kind : s < 16 → fitsAt m s ≡ true → kind_at m s ≡ 0
-  unfolding fitsAt
+  name-kind : s < 16 → fits_at m s ≡ true → kind_at m s ≡ 0
+  unfolding fits_at
   name-kind h f = eqb-true (kind_at m s) 0 (both (eqb (kind_at m s) 0) _ (rw (lt-ltb s 16 h) at f)).0
 
 -- ---- numbers that are given out
 module _ (h : TableHead) (m : List ℕ) where
-  value-back-at : Bytes m → (v : ℕ) → Given h m v → entry_at m (16 + (v - 1)) ≡ kind_of (value_at m v) ∷ contentOf (value_at m v)
+  value-back-at : Bytes m → (v : ℕ) → Given h m v → entry_at m (16 + (v - 1)) ≡ kind_of (value_at m v) ∷ content_of (value_at m v)
   unfolding value_at
   value-back-at b v g =
       let low = g.low in
@@ -133,7 +133,7 @@ module _ (h : TableHead) (m : List ℕ) where
       ap (entry_at m) e ∙ slot-back m (15 + v) b g.sound.full (omega arith) (omega arith) (rw e at fit)
 
   -- two numbers under which the same value is read are the same; integers are compared as integers
-  pub values-apart : Bytes m → (i j : ℕ) → givenValue h m i ≡ true → givenValue h m j ≡ true → value_at m i ≡ value_at m j → i ≡ j
+  pub values-apart : Bytes m → (i j : ℕ) → given_value h m i ≡ true → given_value h m j ≡ true → value_at m i ≡ value_at m j → i ≡ j
   values-apart b i j gi gj e =
       let p = given-value h m i gi in
       let q = given-value h m j gj in
@@ -141,11 +141,11 @@ module _ (h : TableHead) (m : List ℕ) where
       let j-low = q.low in
       let i-high = p.high in
       let j-high = q.high in
-      let same = value-back-at b i p ∙ ap (λ (v : Value). kind_of v ∷ contentOf v) e ∙ sym (value-back-at b j q) in
+      let same = value-back-at b i p ∙ ap (λ (v : Value). kind_of v ∷ content_of v) e ∙ sym (value-back-at b j q) in
       let one = one_number m 16 h.values 255 (i - 1) (j - 1) p.sound.of_values (omega arith) (omega arith) same in
       omega arith
 
-  name-entry : (n : ℕ) → givenName h m n ≡ true → entry_at m (0 + n) ≡ 0 ∷ name_of h m n
+  name-entry : (n : ℕ) → given_name h m n ≡ true → entry_at m (0 + n) ≡ 0 ∷ name_of h m n
   unfolding entry_at name_of
   name-entry n g =
       let p = given-name h m n g in
@@ -155,7 +155,7 @@ module _ (h : TableHead) (m : List ℕ) where
       rw (g, name-kind m (0 + n) (omega arith) fit, zero-add n)
 
   -- and two under which the same name is read
-  pub names_apart : (i j : ℕ) → givenName h m i ≡ true → givenName h m j ≡ true → name_of h m i ≡ name_of h m j → i ≡ j
+  pub names_apart : (i j : ℕ) → given_name h m i ≡ true → given_name h m j ≡ true → name_of h m i ≡ name_of h m j → i ≡ j
   names_apart i j gi gj e =
       let p = given-name h m i gi in
       let q = given-name h m j gj in
@@ -174,7 +174,7 @@ shown-value (string x) (int y) e f = cc
 shown-value (string x) (string y) e f = cc
 
 -- the same, said of what the calls answer: two numbers that `value_at` and `string_bytes` do not tell apart
-pub shown-apart : (h : TableHead) (m : List ℕ) → Bytes m → (i j : ℕ) → givenValue h m i ≡ true → givenValue h m j ≡ true
-    → shownOf h m i ≡ shownOf h m j → stringOf h m i ≡ stringOf h m j → i ≡ j
-unfolding shownOf stringOf
+pub shown-apart : (h : TableHead) (m : List ℕ) → Bytes m → (i j : ℕ) → given_value h m i ≡ true → given_value h m j ≡ true
+    → shown_of h m i ≡ shown_of h m j → string_of h m i ≡ string_of h m j → i ≡ j
+unfolding shown_of string_of
 shown-apart h m b i j gi gj e f = values-apart h m b i j gi gj (shown-value (value_at m i) (value_at m j) (rw (gi, gj) at e) (rw (gi, gj) at f))

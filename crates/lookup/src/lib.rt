@@ -1,6 +1,6 @@
 // What numbers stand for, read back from the lent bytes.
 ghost use Rattle.std.specs.Prelude.{◌≡◌};
-ghost use Rattle.lookup.specs.Show.{givenName, givenValue, shownOf, name_of, stringOf};
+ghost use Rattle.lookup.specs.Show.{given_name, given_value, shown_of, name_of, string_of};
 
 use entries::integers::{integer_of, number_of};
 use entries::slots::{content, kind_at, wide};
@@ -16,7 +16,7 @@ pub enum Shown {
 }
 
 fn given_name(h: TableHead, table: &[u8], n: u32) -> bool
-    ensures { result ≡ givenName h table.now n }
+    ensures { result ≡ given_name h table.now n }
 {
     if !sound(h, table) {
         return false;
@@ -25,7 +25,7 @@ fn given_name(h: TableHead, table: &[u8], n: u32) -> bool
 }
 
 fn given_value(h: TableHead, table: &[u8], v: u32) -> bool
-    ensures { result ≡ givenValue h table.now v }
+    ensures { result ≡ given_value h table.now v }
 {
     if !sound(h, table) {
         return false;
@@ -47,7 +47,7 @@ pub fn name_bytes(h: TableHead, table: &[u8], n: u32) -> &[u8]
 }
 
 pub fn value_at(h: TableHead, table: &[u8], v: u32) -> Shown
-    ensures { result ≡ shownOf h table.now v }
+    ensures { result ≡ shown_of h table.now v }
 {
     if !given_value(h, table, v) {
         return Shown::Nothing;
@@ -65,7 +65,7 @@ pub fn value_at(h: TableHead, table: &[u8], v: u32) -> Shown
 
 // The bytes of a string value where they lie: no byte for a number that is not given out, and for a value that is no string.
 pub fn string_bytes(h: TableHead, table: &[u8], v: u32) -> &[u8]
-    ensures { result.now ≡ stringOf h table.now v }
+    ensures { result.now ≡ string_of h table.now v }
 {
     if !given_value(h, table, v) {
         return &table[..0];

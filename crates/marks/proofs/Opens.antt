@@ -8,27 +8,27 @@ use borrow.Author.Tests.{ne_eqb}
 use lib.ListN.{get_or, take}
 use Rattle.attrs.specs.declared.Attrs.{Attrs}
 use Rattle.sets.specs.Sets.{Set, none, opened, former, completed}
-use Rattle.attrs.specs.Packed.{says, envOf, packed, onto}
+use Rattle.attrs.specs.Packed.{says, env_of, packed, onto}
 use Rattle.attrs.proofs.Force.{env-packed, says-opened, says-former, says-unset}
-use Rattle.rules.specs.Reading.{live, setKey, force}
-use Rattle.rules.specs.Places.{At, Move, after, and_then, putMarks}
+use Rattle.rules.specs.Reading.{live, set_key, force}
+use Rattle.rules.specs.Places.{At, Move, after, and_then, put_marks}
 use Rattle.rules.specs.Edits.{opening, settled}
-use Rattle.laws.proofs.Room.{putMarks-next}
+use Rattle.laws.proofs.Room.{put_marks-next}
 use Rattle.layout.specs.declared.head.Head.{Head}
 use Rattle.layout.specs.declared.word.Content.{Content}
 use Rattle.layout.specs.declared.word.Content.TheVariants.{Text, Embed, Mark}
-use Rattle.layout.specs.Word.{whatOf, unpackOf}
+use Rattle.layout.specs.Word.{what_of, unpack_of}
 use Rattle.layout.specs.Chain.{next_at, chain, walks}
 use Rattle.layout.proofs.Links.{walks_parts}
 use Rattle.arena.specs.declared.Place.{Place}
-use Rattle.arena.specs.Places.{InRange, Neat, inForce, left_of, rightOf, placed, Standing, Carried, Going, in_turn}
-use Rattle.arena.proofs.Carried.{carried-then, carried-as, going_done, then-assoc}
+use Rattle.arena.specs.Places.{InRange, Neat, in_force, left_of, right_of, placed, Standing, Carried, Going, in_turn}
+use Rattle.arena.proofs.Carried.{carried-then, carried-as, going_done, then_assoc}
 use Rattle.marks.specs.Moves.{settling, putting, opener}
 use Rattle.marks.specs.Opens.{Opens}
 use Rattle.marks.proofs.Rooms.{carried-room}
 
 -- ---- no key over 15 is in force
-still : (k : ℕ) (d : Bool) (c : Content) → 16 ≤ k → InRange c → cond (not d) (setKey k (whatOf c) 0) 0 ≡ 0
+still : (k : ℕ) (d : Bool) (c : Content) → 16 ≤ k → InRange c → cond (not d) (set_key k (what_of c) 0) 0 ≡ 0
 still k true c l r = refl
 still k false (Text s n) l r = refl
 still k false (Embed x) l r = refl
@@ -40,32 +40,32 @@ far_none b m neat k l zero f s w = refl
 far_none b m neat k l (suc j) zero s w = refl
 far_none b m neat k l (suc j) (suc f) s w =
     let p = walks_parts b f m s w in
-    let it = unpackOf (get_or m s 0) in
+    let it = unpack_of (get_or m s 0) in
     ap (λ (v : ℕ). force live k v (take j (chain f m (next_at m s)))) (still k it.dead it.content l (neat s p.0).range)
     ∙ far_none b m neat k l j f (next_at m s) p.1
 
 -- the code's set says just what is in force
-pub force-is : {h : Head} {m : List ℕ} {p : Place} → Standing h m p → envOf p.force ≡ after none (left_of h m p)
-unfolding inForce
+pub force-is : {h : Head} {m : List ℕ} {p : Place} → Standing h m p → env_of p.force ≡ after none (left_of h m p)
+unfolding in_force
 force-is {h} {m} {p} s =
     let a = s.arena in
-    ap envOf s.force ∙ env-packed (after none (left_of h m p)) (λ k l. far_none h.items m a.neat k l (h.items - p.todo) h.items h.first a.walk)
+    ap env_of s.force ∙ env-packed (after none (left_of h m p)) (λ k l. far_none h.items m a.neat k l (h.items - p.todo) h.items h.first a.walk)
 
 -- ---- opening
 module _ {h : Head} {m : List ℕ} {p : Place} (s : Standing h m p) (a : Attrs) where
-  pub opens : {h₁ : Head} {m₁ : List ℕ} {p₁ : Place} (d r : Attrs) → d ≡ packed (opened (says a) (envOf p.force)) → r ≡ packed (former (says a) (envOf p.force))
+  pub opens : {h₁ : Head} {m₁ : List ℕ} {p₁ : Place} (d r : Attrs) → d ≡ packed (opened (says a) (env_of p.force)) → r ≡ packed (former (says a) (env_of p.force))
       → Carried (putting (says d)) h m p h₁ m₁ p₁ → Opens (says a) h m p h₁ m₁ p₁ r
   opens d r ed er c =
       let E = after none (left_of h m p) in
       let e = force-is s in
-      let sd : says d ≡ opened (says a) E = ap says ed ∙ says-opened a (envOf p.force) ∙ ap (opened (says a)) e in
+      let sd : says d ≡ opened (says a) E = ap says ed ∙ says-opened a (env_of p.force) ∙ ap (opened (says a)) e in
       record {
-        put = carried-as (opener (says a)) c (ap (λ (x : Set). putMarks x (rightOf h m p) h.items) sd);
-        remembers = ap says er ∙ says-former a (envOf p.force) ∙ ap (former (says a)) e;
+        put = carried-as (opener (says a)) c (ap (λ (x : Set). put_marks x (right_of h m p) h.items) sd);
+        remembers = ap says er ∙ says-former a (env_of p.force) ∙ ap (former (says a)) e;
       }
 
   -- the set completed by the code is the rule's
-  pub completes : (b : Attrs) → b ≡ onto a (completed (says a) (envOf p.force)) → says b ≡ completed (says a) (after none (left_of h m p))
+  pub completes : (b : Attrs) → b ≡ onto a (completed (says a) (env_of p.force)) → says b ≡ completed (says a) (after none (left_of h m p))
   completes b eb = ap says eb ∙ says-unset a p.force ∙ ap (completed (says a)) (force-is s)
 
 module _ {a : Set} {h : Head} {m : List ℕ} {p : Place} {h₁ : Head} {m₁ : List ℕ} {p₁ : Place} {r : Attrs} (o : Opens a h m p h₁ m₁ p₁ r) where
@@ -76,13 +76,13 @@ module _ {a : Set} {h : Head} {m : List ℕ} {p : Place} {h₁ : Head} {m₁ : L
       record {
         stands = o.put.stands;
         rest = ap (λ (x : At). and_then none x (f (says r))) o.put.moved
-            ∙ then-assoc none (placed h m p) (opener a) (f (says r))
+            ∙ then_assoc none (placed h m p) (opener a) (f (says r))
             ∙ ap (λ (x : Set). and_then none (placed h m p) (in_turn (opener a) (f x))) o.remembers;
         units = o.put.units;
       }
 
   pub opens-room : h₁.items ≤ h.items + 16
-  opens-room = carried-room o.put 16 (λ e l n. putMarks-next (opened a e) l n)
+  opens-room = carried-room o.put 16 (λ e l n. put_marks-next (opened a e) l n)
 
   -- Settle, Open, and a move with what is remembered
   pub settled-carried : (f : Set → Move) {p₀ : Place} → Carried (settling a) h m p₀ h m p → {h₂ : Head} {m₂ : List ℕ} {p₂ : Place} → Carried (f (says r)) h₁ m₁ p₁ h₂ m₂ p₂ → Carried (settled a f) h m p₀ h₂ m₂ p₂

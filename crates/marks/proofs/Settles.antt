@@ -8,7 +8,7 @@ use Rattle.rules.specs.Places.{Move}
 use Rattle.layout.specs.declared.head.Head.{Head}
 use Rattle.layout.specs.Chain.{item_at}
 use Rattle.arena.specs.declared.Place.{Place}
-use Rattle.arena.specs.Places.{Carried, Going, forwardOf, staying}
+use Rattle.arena.specs.Places.{Carried, Going, forward_of, staying}
 use Rattle.arena.proofs.Walks.{going_end, going-here, going-ahead, going-stopped}
 use Rattle.marks.specs.Moves.{passable, settling}
 
@@ -20,5 +20,5 @@ module _ {f : Move} {h : Head} {m : List ℕ} {p : Place} {a : Set} {h₁ : Head
     pub settled-stop : passable a (item_at m₁ p₁.right) ≡ false → Carried f h m p h₁ m₁ p₁
     settled-stop t = going-stopped (going-here o more staying (λ e l n. rw t))
 
-    pub settled-past : passable a (item_at m₁ p₁.right) ≡ true → (q : Place) → q ≡ forwardOf m₁ p₁ → Going f h m p (settling a) h₁ m₁ q
+    pub settled-past : passable a (item_at m₁ p₁.right) ≡ true → (q : Place) → q ≡ forward_of m₁ p₁ → Going f h m p (settling a) h₁ m₁ q
     settled-past t q eq = going-ahead o more q eq (settling a) (λ e l n. rw t)

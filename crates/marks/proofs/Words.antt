@@ -5,13 +5,13 @@ use mathlib.Core.Bool.{◌||◌, cond}
 use Rattle.sets.specs.Sets.{Set}
 use Rattle.rules.specs.Places.{agrees, forget}
 use Rattle.layout.specs.declared.word.Item.{Item}
-use Rattle.layout.specs.Word.{whatOf, unpackOf}
-use Rattle.layout.specs.Chain.{itemFrom}
+use Rattle.layout.specs.Word.{what_of, unpack_of}
+use Rattle.layout.specs.Chain.{item_from}
 use Rattle.marks.specs.Moves.{passable, dropping}
 
-module _ (a : Set) (w : ℕ) (it : Item) (e : it ≡ unpackOf w) where
-  pub passable-is : (it.dead || agrees a (whatOf it.content)) ≡ passable a (itemFrom 0 (w / 4096))
-  passable-is = ap (λ (x : Item). x.dead || agrees a (whatOf x.content)) e
+module _ (a : Set) (w : ℕ) (it : Item) (e : it ≡ unpack_of w) where
+  pub passable-is : (it.dead || agrees a (what_of it.content)) ≡ passable a (item_from 0 (w / 4096))
+  passable-is = ap (λ (x : Item). x.dead || agrees a (what_of x.content)) e
 
-  pub dropping-is : cond it.dead a (forget (whatOf it.content) a) ≡ dropping a (itemFrom 0 (w / 4096))
-  dropping-is = ap (λ (x : Item). cond x.dead a (forget (whatOf x.content) a)) e
+  pub dropping-is : cond it.dead a (forget (what_of it.content) a) ≡ dropping a (item_from 0 (w / 4096))
+  dropping-is = ap (λ (x : Item). cond x.dead a (forget (what_of x.content) a)) e

@@ -1,7 +1,7 @@
 // Marks around a place: which are passed, which are put.
 ghost use Rattle.std.specs.Prelude.{◌≡◌, ◌+◌, ◌/◌, ◌≤◌};
 ghost use Rattle.attrs.specs.Packed.{says};
-ghost use Rattle.layout.specs.Chain.{itemFrom};
+ghost use Rattle.layout.specs.Chain.{item_from};
 ghost use Rattle.rules.specs.Edits.{closing};
 ghost use Rattle.arena.specs.Places.{SIZE, Standing, Carried, Going};
 ghost use Rattle.marks.specs.Moves.{settling, passable, putting, dropping};
@@ -16,7 +16,7 @@ use sets::rest;
 
 // A deleted item, or a mark that the set agrees with.
 fn passes(w: u64, attrs: Attrs) -> bool
-    ensures { result ≡ passable (says attrs) (itemFrom 0 (w / 4096)) }
+    ensures { result ≡ passable (says attrs) (item_from 0 (w / 4096)) }
 {
     let it = unpack(w);
     if it.dead {
@@ -91,7 +91,7 @@ pub fn insert_attributes(h: Head, items: &mut [u64], p: Place, attrs: Attrs) -> 
 
 // What is still remembered behind an item that was passed.
 fn dropped(w: u64, remembered: Attrs) -> Attrs
-    ensures { says result ≡ dropping (says remembered) (itemFrom 0 (w / 4096)) }
+    ensures { says result ≡ dropping (says remembered) (item_from 0 (w / 4096)) }
 {
     let it = unpack(w);
     if it.dead {

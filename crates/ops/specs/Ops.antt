@@ -18,24 +18,24 @@ body_of us (Text s n) = words (take n (drop s us))
 body_of us (Embed e) = object e
 
 -- The operation that the rules see: its text is a part of the lent units, its set what the attributes say.
-abbrev pub opFor : List ℕ → Set → Op → rules.Op Body
-opFor us a (Insert i) = rules.insert (body_of us i) a
-opFor us a (Delete n) = rules.delete n
-opFor us a (Retain n) = rules.retain n a
+abbrev pub op_for : List ℕ → Set → Op → rules.Op Body
+op_for us a (Insert i) = rules.insert (body_of us i) a
+op_for us a (Delete n) = rules.delete n
+op_for us a (Retain n) = rules.retain n a
 
 unfoldable pub op_of : List ℕ → DeltaOp → rules.Op Body
-op_of us d = opFor us (says d.attrs) d.op
+op_of us d = op_for us (says d.attrs) d.op
 
 -- The operations of a delta.
 unfoldable pub ops_of : List ℕ → Delta → List (rules.Op Body)
 ops_of us d = map (op_of us) (take d.count d.ops)
 
 -- What stands where no operation was put.
-abbrev pub noOp : DeltaOp
-noOp = record { op = Retain 0; attrs = packed empty }
+abbrev pub no_op : DeltaOp
+no_op = record { op = Retain 0; attrs = packed empty }
 
-unfoldable pub emptyDelta : Delta
-emptyDelta = record { count = 0; ops = replicate 256 noOp }
+unfoldable pub empty_delta : Delta
+empty_delta = record { count = 0; ops = replicate 256 no_op }
 
 -- A delta with one operation more. Refusal 7 (MANY), exactly when there are 256 already.
 unfoldable pub pushed : Delta → DeltaOp → Pushed

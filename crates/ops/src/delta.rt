@@ -1,6 +1,6 @@
 // Operations by value. The attribute set of an operation lies beside it; a Delete's is not read.
 ghost use Rattle.std.specs.Prelude.{◌≡◌};
-ghost use Rattle.ops.specs.Ops.{emptyDelta, pushed};
+ghost use Rattle.ops.specs.Ops.{empty_delta, pushed};
 
 use attrs::Attrs;
 
@@ -41,7 +41,7 @@ impl Delta {
     pub const OPS: u32 = 256;
 
     pub fn empty() -> Delta
-        ensures { result ≡ emptyDelta }
+        ensures { result ≡ empty_delta }
     {
         let none = DeltaOp {
             op: Op::Retain(0),

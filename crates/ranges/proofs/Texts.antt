@@ -9,59 +9,59 @@ use mathlib.Core.List.{List, [], ◌∷◌, ◌++◌, map}
 use lib.ListN.{length, get_or, drop, set, length-append, get_or-append}
 use lib.Seq.{drop-cons, drop-append-add, drop-drop, drop-nil}
 use Rattle.rules.specs.Sheet.{What, text, embed, mark, width, Item}
-use Rattle.rules.specs.Reading.{Glyph, unit, unitsOf, glyphs, live, seenGlyphs}
+use Rattle.rules.specs.Reading.{Glyph, unit, units_of, glyphs, live, seen_glyphs}
 use Rattle.rules.specs.Sound.{Fits, AllFit}
-use Rattle.rules.specs.Calls.{unit_at, visibleUnits}
+use Rattle.rules.specs.Calls.{unit_at, visible_units}
 use Rattle.layout.specs.declared.word.Content.{Content}
 use Rattle.layout.specs.declared.word.Content.TheVariants.{Text}
-use Rattle.layout.specs.Word.{whatOf}
+use Rattle.layout.specs.Word.{what_of}
 use Rattle.layout.specs.Chain.{chain, item_at, next_at}
 use Rattle.layout.proofs.Links.{walks-lt, walks_next, chain-step}
 use Rattle.ranges.specs.declared.Place.{Place}
 use Rattle.ranges.specs.declared.Shown.{Shown}
-use Rattle.layout.specs.Word.{shownLen}
+use Rattle.layout.specs.Word.{shown_len}
 use Rattle.runs.specs.Answers.{written}
-use Rattle.ranges.specs.Texts.{unitIn, showing, LiesIn, Reads, Given}
+use Rattle.ranges.specs.Texts.{unit_in, showing, LiesIn, Reads, Given}
 use Rattle.runs.proofs.Fronts.{written-more}
 
 -- ---- one item
 
-abbrev pub shownOf : List ℕ → Bool → What → List ℕ
-shownOf u d w = map (unit_at u) (cond (not d) (glyphs w) [])
+abbrev pub shown_of : List ℕ → Bool → What → List ℕ
+shown_of u d w = map (unit_at u) (cond (not d) (glyphs w) [])
 
-units_of : (u : List ℕ) (gs hs : List Glyph) → map (unit_at u) (gs ++ hs) ≡ map (unit_at u) gs ++ map (unit_at u) hs
-units_of u [] hs = refl
-units_of u (g ∷ gs) hs = ap (λ (l : List ℕ). unit_at u g ∷ l) (units_of u gs hs)
+units_of_lem : (u : List ℕ) (gs hs : List Glyph) → map (unit_at u) (gs ++ hs) ≡ map (unit_at u) gs ++ map (unit_at u) hs
+units_of_lem u [] hs = refl
+units_of_lem u (g ∷ gs) hs = ap (λ (l : List ℕ). unit_at u g ∷ l) (units_of_lem u gs hs)
 
-pub shown-cons : (u : List ℕ) (i : Item) (l : List Item) → visibleUnits u (i ∷ l) ≡ shownOf u i.flags.dead i.what ++ visibleUnits u l
-shown-cons u i l = units_of u (cond (live i.flags) (glyphs i.what) []) (seenGlyphs l)
+pub shown-cons : (u : List ℕ) (i : Item) (l : List Item) → visible_units u (i ∷ l) ≡ shown_of u i.flags.dead i.what ++ visible_units u l
+shown-cons u i l = units_of_lem u (cond (live i.flags) (glyphs i.what) []) (seen_glyphs l)
 
-length-piece : (u : List ℕ) (s n : ℕ) → length (map (unit_at u) (unitsOf s n)) ≡ n
+length-piece : (u : List ℕ) (s n : ℕ) → length (map (unit_at u) (units_of s n)) ≡ n
 length-piece u s zero = refl
 length-piece u s (suc n) = ap suc (length-piece u (suc s) n)
 
-pub length-shown : (u : List ℕ) (d : Bool) (w : What) → length (shownOf u d w) ≡ shownLen d w
+pub length-shown : (u : List ℕ) (d : Bool) (w : What) → length (shown_of u d w) ≡ shown_len d w
 length-shown u true w = refl
 length-shown u false (text s n) = length-piece u s n
 length-shown u false (embed x) = refl
 length-shown u false (mark k v) = refl
 
-piece-at : (u : List ℕ) (s n k : ℕ) → k < n → get_or (map (unit_at u) (unitsOf s n)) k 0 ≡ get_or u (s + k) 0
+piece-at : (u : List ℕ) (s n k : ℕ) → k < n → get_or (map (unit_at u) (units_of s n)) k 0 ≡ get_or u (s + k) 0
 piece-at u s zero k l = absurd (omega arith)
 piece-at u s (suc n) zero l = ap (λ (x : ℕ). get_or u x 0) (sym (add-zero s))
 piece-at u s (suc n) (suc k) l =
     let e : suc s + k ≡ s + suc k = omega arith in
     piece-at u (suc s) n k (omega arith) ∙ ap (λ (x : ℕ). get_or u x 0) e
 
-shown-at : (u : List ℕ) (d : Bool) (w : What) (k : ℕ) → k < shownLen d w → get_or (shownOf u d w) k 0 ≡ unitIn u w k
-unfolding unitIn
+shown-at : (u : List ℕ) (d : Bool) (w : What) (k : ℕ) → k < shown_len d w → get_or (shown_of u d w) k 0 ≡ unit_in u w k
+unfolding unit_in
 shown-at u true w k l = absurd (omega arith)
 shown-at u false (text s n) k l = piece-at u s n k l
 shown-at u false (embed x) zero l = refl
 shown-at u false (embed x) (suc k) l = absurd (omega arith)
 shown-at u false (mark j v) k l = absurd (omega arith)
 
-pub width_of : (d : Bool) (w : What) (k : ℕ) → k < shownLen d w → k < width w
+pub width_of : (d : Bool) (w : What) (k : ℕ) → k < shown_len d w → k < width w
 width_of true w k l = absurd (omega arith)
 width_of false w k l = l
 
@@ -104,36 +104,36 @@ module _ (m u : List ℕ) (at todo off : ℕ) where
         record { used = r.used; walk = walks_next (length m) todo m at some r.walk; fit = (fit-here r).2; room = r.room }
 
     abbrev here : List ℕ
-    here = shownOf u (item_at m at).flags.dead (item_at m at).what
+    here = shown_of u (item_at m at).flags.dead (item_at m at).what
 
     abbrev left : List ℕ
-    left = visibleUnits u (chain (todo - 1) m (next_at m at))
+    left = visible_units u (chain (todo - 1) m (next_at m at))
 
-    shows-cons : visibleUnits u (chain todo m at) ≡ here ++ left
-    shows-cons = ap (visibleUnits u) (chain-step todo m at some) ∙ shown-cons u (item_at m at) (chain (todo - 1) m (next_at m at))
+    shows-cons : visible_units u (chain todo m at) ≡ here ++ left
+    shows-cons = ap (visible_units u) (chain-step todo m at some) ∙ shown-cons u (item_at m at) (chain (todo - 1) m (next_at m at))
 
-    long : length here ≡ shownLen (item_at m at).flags.dead (item_at m at).what
+    long : length here ≡ shown_len (item_at m at).flags.dead (item_at m at).what
     long = length-shown u (item_at m at).flags.dead (item_at m at).what
 
-    pub shows-pass : shownLen (item_at m at).flags.dead (item_at m at).what ≤ off
-        → showing m u (place at todo off) ≡ showing m u (place (next_at m at) (todo - 1) (off - shownLen (item_at m at).flags.dead (item_at m at).what))
+    pub shows-pass : shown_len (item_at m at).flags.dead (item_at m at).what ≤ off
+        → showing m u (place at todo off) ≡ showing m u (place (next_at m at) (todo - 1) (off - shown_len (item_at m at).flags.dead (item_at m at).what))
     unfolding showing
     shows-pass l =
-        let w = shownLen (item_at m at).flags.dead (item_at m at).what in
+        let w = shown_len (item_at m at).flags.dead (item_at m at).what in
         let e : off ≡ length here + (off - w) = omega (arith, long) in
         ap₂ drop e shows-cons ∙ drop-append-add here left (off - w)
 
-    pub shows-here : off < shownLen (item_at m at).flags.dead (item_at m at).what
-        → showing m u (place at todo off) ≡ unitIn u (item_at m at).what off ∷ showing m u (place at todo (off + 1))
+    pub shows-here : off < shown_len (item_at m at).flags.dead (item_at m at).what
+        → showing m u (place at todo off) ≡ unit_in u (item_at m at).what off ∷ showing m u (place at todo (off + 1))
     unfolding showing
     shows-here l =
-        let v : off < length (visibleUnits u (chain todo m at)) = rw shows-cons (simp length-append (omega (arith, long))) in
-        let first : get_or (visibleUnits u (chain todo m at)) off 0 ≡ unitIn u (item_at m at).what off =
+        let v : off < length (visible_units u (chain todo m at)) = rw shows-cons (simp length-append (omega (arith, long))) in
+        let first : get_or (visible_units u (chain todo m at)) off 0 ≡ unit_in u (item_at m at).what off =
         ap (λ (x : List ℕ). get_or x off 0) shows-cons
         ∙ get_or-append here left 0 off (omega (arith, long))
         ∙ shown-at u (item_at m at).flags.dead (item_at m at).what off l in
-        drop-cons (visibleUnits u (chain todo m at)) off 0 v
-        ∙ ap₂ (λ (x k : ℕ). x ∷ drop k (visibleUnits u (chain todo m at))) first (sym (add-one off))
+        drop-cons (visible_units u (chain todo m at)) off 0 v
+        ∙ ap₂ (λ (x k : ℕ). x ∷ drop k (visible_units u (chain todo m at))) first (sym (add-one off))
 
 -- a unit, and none
 module _ (m u : List ℕ) (p : Place) where
@@ -144,10 +144,10 @@ module _ (m u : List ℕ) (p : Place) where
   given-none r d e z f = record { reads = d; unit = z ∙ sym (ap (λ (l : List ℕ). get_or l 0 0) e); after = f ∙ sym (ap (drop 1) e) }
 
 -- a unit of a text lies in the units
-pub in-piece : (c : Content) (s n k long : ℕ) → c ≡ Text s n → LiesIn long (whatOf c) → k < width (whatOf c) → s + k < long
+pub in-piece : (c : Content) (s n k long : ℕ) → c ≡ Text s n → LiesIn long (what_of c) → k < width (what_of c) → s + k < long
 in-piece c s n k long e l h =
-    let l' : s + n ≤ long = subst (λ (x : Content). LiesIn long (whatOf x)) e l in
-    let h' : k < n = subst (λ (x : Content). k < width (whatOf x)) e h in
+    let l' : s + n ≤ long = subst (λ (x : Content). LiesIn long (what_of x)) e l in
+    let h' : k < n = subst (λ (x : Content). k < width (what_of x)) e h in
     omega arith
 
 -- ---- a copy

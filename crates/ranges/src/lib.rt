@@ -1,9 +1,9 @@
 // The visible units of a range, copied out: so a run's text can be had by its start and length.
 ghost use Rattle.std.specs.Prelude.{◌≡◌, ◌-◌, ◌<◌, ◌≤◌, min, length};
-ghost use Rattle.layout.specs.Word.{whatOf};
+ghost use Rattle.layout.specs.Word.{what_of};
 ghost use Rattle.runs.specs.Answers.{written};
 ghost use Rattle.rules.specs.Sheet.{width as width_of};
-ghost use Rattle.ranges.specs.Texts.{unitIn, showing, textAnswer, Reads, Given, LiesIn, Copied};
+ghost use Rattle.ranges.specs.Texts.{unit_in, showing, text_answer, Reads, Given, LiesIn, Copied};
 
 use layout::head::Head;
 use layout::word::{Content, shown_len, unpack};
@@ -26,9 +26,9 @@ pub struct Shown {
 }
 
 fn unit_in(units: &[u16], c: Content, k: u64) -> u16
-    requires lies_in { LiesIn (length units.now) (whatOf c) }
-    requires k_bound { k < width_of (whatOf c) }
-    ensures { result ≡ unitIn units.now (whatOf c) k }
+    requires lies_in { LiesIn (length units.now) (what_of c) }
+    requires k_bound { k < width_of (what_of c) }
+    ensures { result ≡ unit_in units.now (what_of c) k }
 {
     match c {
         Content::Text { start, len: _ } => {
@@ -105,7 +105,7 @@ fn span(all: u32, index: u32, len: u32) -> u32
 
 // What is answered where there is room for so many units.
 fn plan(h: Head, items: &[u64], units: &[u16], index: u32, len: u32, room: usize) -> Count
-    ensures { result ≡ textAnswer h items.now units.now index len room }
+    ensures { result ≡ text_answer h items.now units.now index len room }
 {
     let all = items::len(h, items, units);
     if all.refusal != 0 {

@@ -1,7 +1,7 @@
 -- Ranges: what is wrong with a removal.
 use Rattle.std.specs.Prelude.{ℕ, cond, List}
-use Rattle.rules.specs.Calls.{badRange, tooLong}
+use Rattle.rules.specs.Calls.{bad_range, too_long}
 
 -- PAIR, then SHORT; 0 for neither.
-abbrev pub removalFault : List ℕ → ℕ → ℕ → ℕ
-removalFault us i n = cond (badRange us i n) 2 (cond (tooLong us i n) 1 0)
+abbrev pub removal_fault : List ℕ → ℕ → ℕ → ℕ
+removal_fault us i n = cond (bad_range us i n) 2 (cond (too_long us i n) 1 0)

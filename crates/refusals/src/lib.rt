@@ -1,27 +1,27 @@
 // The refusals that only read, by number; 0 for none. The sheet is sound.
 ghost use Rattle.std.specs.Prelude.{◌≡◌, true, cond, not};
-ghost use Rattle.units.specs.Surrogates.{paired, splitsPair};
+ghost use Rattle.units.specs.Surrogates.{paired, splits_pair};
 ghost use Rattle.rules.specs.Reading.{visible};
-ghost use Rattle.rules.specs.Calls.{badRange};
+ghost use Rattle.rules.specs.Calls.{bad_range};
 ghost use Rattle.rules.specs.Rulings.{seen};
-ghost use Rattle.layout.specs.Memory.{list_of, soundOf, modelOf};
-ghost use Rattle.refusals.specs.Ranges.{removalFault};
+ghost use Rattle.layout.specs.Memory.{list_of, sound_of, model_of};
+ghost use Rattle.refusals.specs.Ranges.{removal_fault};
 
 use cuts::cuts_pair;
 use layout::head::Head;
 
 // The index is of 64 bits, so that an index and a length add up exactly.
 fn in_pair(h: Head, items: &[u64], units: &[u16], index: u64) -> bool
-    requires { soundOf h items.now units.now ≡ true }
-    ensures { result ≡ splitsPair (seen (modelOf h items.now units.now)) index }
+    requires { sound_of h items.now units.now ≡ true }
+    ensures { result ≡ splits_pair (seen (model_of h items.now units.now)) index }
 {
     let used = h.units as usize;
     cuts_pair(h, items, &units[..used], index)
 }
 
 pub fn embed_fault(h: Head, items: &[u64], units: &[u16], index: u32) -> u32
-    requires { soundOf h items.now units.now ≡ true }
-    ensures { result ≡ cond (splitsPair (seen (modelOf h items.now units.now)) index) 2 0 }
+    requires { sound_of h items.now units.now ≡ true }
+    ensures { result ≡ cond (splits_pair (seen (model_of h items.now units.now)) index) 2 0 }
 {
     if in_pair(h, items, units, index as u64) {
         return 2;
@@ -30,8 +30,8 @@ pub fn embed_fault(h: Head, items: &[u64], units: &[u16], index: u32) -> u32
 }
 
 pub fn text_fault(h: Head, items: &[u64], units: &[u16], index: u32, chunk: &[u16]) -> u32
-    requires { soundOf h items.now units.now ≡ true }
-    ensures { result ≡ cond (not (paired chunk.now)) 3 (cond (splitsPair (seen (modelOf h items.now units.now)) index) 2 0) }
+    requires { sound_of h items.now units.now ≡ true }
+    ensures { result ≡ cond (not (paired chunk.now)) 3 (cond (splits_pair (seen (model_of h items.now units.now)) index) 2 0) }
 {
     if !units::is_whole(chunk) {
         return 3;
@@ -41,8 +41,8 @@ pub fn text_fault(h: Head, items: &[u64], units: &[u16], index: u32, chunk: &[u1
 
 // The end of a range lies in the text too, or past it.
 pub fn range_fault(h: Head, items: &[u64], units: &[u16], index: u32, len: u32) -> u32
-    requires { soundOf h items.now units.now ≡ true }
-    ensures { result ≡ cond (badRange (seen (modelOf h items.now units.now)) index len) 2 0 }
+    requires { sound_of h items.now units.now ≡ true }
+    ensures { result ≡ cond (bad_range (seen (model_of h items.now units.now)) index len) 2 0 }
 {
     let start = index as u64;
     if in_pair(h, items, units, start) {
@@ -56,8 +56,8 @@ pub fn range_fault(h: Head, items: &[u64], units: &[u16], index: u32, len: u32) 
 
 // `all` is the visible length.
 pub fn removal_fault(h: Head, items: &[u64], units: &[u16], all: u32, index: u32, n: u32) -> u32
-    requires { (soundOf h items.now units.now ≡ true) × (all ≡ visible (list_of h items.now)) }
-    ensures { result ≡ removalFault (seen (modelOf h items.now units.now)) index n }
+    requires { (sound_of h items.now units.now ≡ true) × (all ≡ visible (list_of h items.now)) }
+    ensures { result ≡ removal_fault (seen (model_of h items.now units.now)) index n }
 {
     let fault = range_fault(h, items, units, index, n);
     if fault != 0 {

@@ -1,13 +1,13 @@
 // Removing: units deleted from a place on, and marks that then do nothing.
 ghost use Rattle.std.specs.Prelude.{◌≡◌, cond, ◌/◌, ◌-◌, ◌<◌, ◌≤◌, length};
-ghost use Rattle.attrs.specs.Packed.{envOf};
-ghost use Rattle.rules.specs.Sheet.{mark, isMark};
-ghost use Rattle.rules.specs.Edits.{idle, removeHere, deleteHere};
-ghost use Rattle.layout.specs.Word.{whatOf};
-ghost use Rattle.layout.specs.Chain.{itemFrom};
+ghost use Rattle.attrs.specs.Packed.{env_of};
+ghost use Rattle.rules.specs.Sheet.{mark, is_mark};
+ghost use Rattle.rules.specs.Edits.{idle, remove_here, delete_here};
+ghost use Rattle.layout.specs.Word.{what_of};
+ghost use Rattle.layout.specs.Chain.{item_from};
 ghost use Rattle.arena.specs.Places.{SIZE, Standing, Carried};
-ghost use Rattle.arena.specs.Writes.{killMem};
-ghost use Rattle.removal.specs.Tidies.{idleItem, deleting, ending, tidyFirst, tidying, deleteTidy};
+ghost use Rattle.arena.specs.Writes.{kill_mem};
+ghost use Rattle.removal.specs.Tidies.{idle_item, deleting, ending, tidy_first, tidying, delete_tidy};
 
 use arena::writes::{delete, split};
 use arena::{At, Place, forward};
@@ -18,7 +18,7 @@ use layout::word::{Content, Item, is_mark, shown_len, unpack};
 // A branch of its own, so that the walks go straight on.
 fn delete_if(items: &mut [u64], n: u32, yes: bool)
     requires { n < length items.old }
-    ensures { items.new ≡ cond yes (killMem items.old n) items.old }
+    ensures { items.new ≡ cond yes (kill_mem items.old n) items.old }
 {
     if yes {
         delete(items, n);
@@ -58,7 +58,7 @@ fn delete_units(h: Head, items: &mut [u64], p: Place, len: u32) -> At
 
 // Whether what is right of an item, live or deleted, is in the same gap.
 fn stays_in_gap(it: Item) -> bool
-    ensures { result ≡ isMark (whatOf it.content) }
+    ensures { result ≡ is_mark (what_of it.content) }
 {
     let c = it.content;
     is_mark(c)
@@ -84,7 +84,7 @@ fn gap_end(h: Head, items: &[u64], p: Place) -> Place
 
 // A mark does nothing in a gap if its value is not the one at the gap's end, or is the one at its start.
 fn does_nothing(key: u32, value: u32, start: Attrs, end: Attrs) -> bool
-    ensures { result ≡ idle (envOf start) (envOf end) (mark key value) }
+    ensures { result ≡ idle (env_of start) (env_of end) (mark key value) }
 {
     if value == end.get(key) {
         return value == start.get(key);
@@ -93,7 +93,7 @@ fn does_nothing(key: u32, value: u32, start: Attrs, end: Attrs) -> bool
 }
 
 fn is_idle(w: u64, start: Attrs, end: Attrs) -> bool
-    ensures { result ≡ idleItem (envOf start) (envOf end) (itemFrom 0 (w / 4096)) }
+    ensures { result ≡ idle_item (env_of start) (env_of end) (item_from 0 (w / 4096)) }
 {
     let it = unpack(w);
     if it.dead {
@@ -110,7 +110,7 @@ fn is_idle(w: u64, start: Attrs, end: Attrs) -> bool
 // Live marks that do nothing are deleted, up to the place that has `stop` items to its right.
 fn tidy_until(h: Head, items: &mut [u64], p: Place, stop: u32, start: Attrs, end: Attrs) -> Place
     requires { Standing h items.old p }
-    ensures { Carried (tidyFirst (p.todo - stop) (envOf start) (envOf end)) h items.old p h items.new result }
+    ensures { Carried (tidy_first (p.todo - stop) (env_of start) (env_of end)) h items.old p h items.new result }
 {
     let mut at = p;
     while at.todo > stop {
@@ -139,7 +139,7 @@ fn clean_format_gap(h: Head, items: &mut [u64], start: Place, stop: Place) -> Pl
 
 fn delete_and_tidy(h: Head, items: &mut [u64], p: Place, len: u32) -> At
     requires { Standing h items.old p × (h.items < SIZE) }
-    ensures { Carried (deleteTidy len) h items.old p result.head items.new result.place }
+    ensures { Carried (delete_tidy len) h items.old p result.head items.new result.place }
 {
     let done = delete_units(h, items, p, len);
     let head = done.head;
@@ -152,7 +152,7 @@ fn delete_and_tidy(h: Head, items: &mut [u64], p: Place, len: u32) -> At
 // Rule Remove, from its place: it tidies only where something is in force.
 pub fn remove_here(h: Head, items: &mut [u64], p: Place, len: u32) -> At
     requires { Standing h items.old p × (h.items < SIZE) }
-    ensures { Carried (removeHere len) h items.old p result.head items.new result.place }
+    ensures { Carried (remove_here len) h items.old p result.head items.new result.place }
 {
     let force = p.force;
     if force.is_empty() {
@@ -164,7 +164,7 @@ pub fn remove_here(h: Head, items: &mut [u64], p: Place, len: u32) -> At
 // Rule Deleted, of a delta: it always tidies, and a length of 0 does nothing.
 pub fn delete_here(h: Head, items: &mut [u64], p: Place, len: u32) -> At
     requires { Standing h items.old p × (h.items < SIZE) }
-    ensures { Carried (deleteHere len) h items.old p result.head items.new result.place }
+    ensures { Carried (delete_here len) h items.old p result.head items.new result.place }
 {
     if len == 0 {
         return At { head: h, place: p };

@@ -3,7 +3,7 @@ use Rattle.std.specs.Prelude.{ℕ, ◌+◌, ◌*◌, ◌≤◌, ◌<◌, ◌≡�
 use Rattle.rules.specs.Sheet.{Item}
 use Rattle.rules.specs.Places.{At, whole}
 use Rattle.rules.specs.Sound.{occurs, below}
-use Rattle.rules.specs.Calls.{Call, insertText, insertTextWith, insertEmbed, insertEmbedWith, formatRange, removeRange, applyDelta, beginNow}
+use Rattle.rules.specs.Calls.{Call, insert_text, insert_text_with, insert_embed, insert_embed_with, format_range, remove_range, apply_delta, begin_now}
 
 -- every item has a number below m
 abbrev pub AllBelow : ℕ → List Item → Type 0
@@ -20,12 +20,12 @@ pub record Makes (l : List Item) (m : ℕ) (p : At) (k : ℕ) : Type 0 where
   pub once : (j : ℕ) → occurs j (whole p) + below j m ≡ occurs j l + below j p.next
 
 -- the most that a call makes: 34 by index, 33 for each operation of a delta
-abbrev pub mostNew : Call → ℕ
-mostNew (insertText i us) = 2
-mostNew (insertTextWith i us a) = 34
-mostNew (insertEmbed i e) = 2
-mostNew (insertEmbedWith i e a) = 34
-mostNew (formatRange i n a) = 34
-mostNew (removeRange i n) = 2
-mostNew (applyDelta ops) = 33 * length ops
-mostNew beginNow = 0
+abbrev pub most_new : Call → ℕ
+most_new (insert_text i us) = 2
+most_new (insert_text_with i us a) = 34
+most_new (insert_embed i e) = 2
+most_new (insert_embed_with i e a) = 34
+most_new (format_range i n a) = 34
+most_new (remove_range i n) = 2
+most_new (apply_delta ops) = 33 * length ops
+most_new begin_now = 0

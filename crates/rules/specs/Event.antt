@@ -1,8 +1,8 @@
 -- The event: `get_delta`, over two readings of the same list. `was` sees what stood before, `now` what stands now.
 use Rattle.std.specs.Prelude.{ℕ, suc, ◌+◌, Bool, true, false, cond, not, ◌&&◌, List, [], ◌∷◌, ◌++◌, eqb, replicate}
-use Rattle.sets.specs.Sets.{Slot, absent, is, Set, empty, Env, none, keys, at, bare, nonNull, asSet}
-use Rattle.rules.specs.Sheet.{What, text, embed, mark, Item, width, isMark}
-use Rattle.rules.specs.Reading.{Seen, passKey, Glyph, unit, thing, glyphs, Op, insert, delete, retain}
+use Rattle.sets.specs.Sets.{Slot, absent, is, Set, empty, Env, none, keys, at, bare, non_null, as_set}
+use Rattle.rules.specs.Sheet.{What, text, embed, mark, Item, width, is_mark}
+use Rattle.rules.specs.Reading.{Seen, pass_key, Glyph, unit, thing, glyphs, Op, insert, delete, retain}
 
 -- the run that grows: get_delta's action with what it has gathered
 pub data Run : Type 0 where
@@ -19,11 +19,11 @@ pub record Asm : Type 0 where
   pub old : Env
 
 -- `add_op`: the operation of the run, if there is one
-abbrev pub addOp : Run → Set → Env → List (Op (List Glyph))
-addOp idle a c = []
-addOp (inserting gs) a c = insert gs (asSet c) ∷ []
-addOp (deleting n) a c = delete n ∷ []
-addOp (retaining n) a c = retain n a ∷ []
+abbrev pub add_op : Run → Set → Env → List (Op (List Glyph))
+add_op idle a c = []
+add_op (inserting gs) a c = insert gs (as_set c) ∷ []
+add_op (deleting n) a c = delete n ∷ []
+add_op (retaining n) a c = retain n a ∷ []
 
 -- What an item does to the run: is it told now, what is told besides, and which run goes on.
 pub record Step : Type 0 where
@@ -38,38 +38,38 @@ abbrev pub starts : Run → Step
 starts r = record { ends = true; tells = []; then = r }
 
 -- A run goes on with the next item of its own sort; another sort ends it and starts its own.
-abbrev pub growInsert : List Glyph → Run → Step
-growInsert gs idle = starts (inserting gs)
-growInsert gs (inserting hs) = goes (inserting (hs ++ gs))
-growInsert gs (deleting n) = starts (inserting gs)
-growInsert gs (retaining n) = starts (inserting gs)
+abbrev pub grow_insert : List Glyph → Run → Step
+grow_insert gs idle = starts (inserting gs)
+grow_insert gs (inserting hs) = goes (inserting (hs ++ gs))
+grow_insert gs (deleting n) = starts (inserting gs)
+grow_insert gs (retaining n) = starts (inserting gs)
 
-abbrev pub growDelete : ℕ → Run → Step
-growDelete w idle = starts (deleting w)
-growDelete w (inserting hs) = starts (deleting w)
-growDelete w (deleting n) = goes (deleting (n + w))
-growDelete w (retaining n) = starts (deleting w)
+abbrev pub grow_delete : ℕ → Run → Step
+grow_delete w idle = starts (deleting w)
+grow_delete w (inserting hs) = starts (deleting w)
+grow_delete w (deleting n) = goes (deleting (n + w))
+grow_delete w (retaining n) = starts (deleting w)
 
-abbrev pub growRetain : ℕ → Run → Step
-growRetain w idle = starts (retaining w)
-growRetain w (inserting hs) = starts (retaining w)
-growRetain w (deleting n) = starts (retaining w)
-growRetain w (retaining n) = goes (retaining (n + w))
+abbrev pub grow_retain : ℕ → Run → Step
+grow_retain w idle = starts (retaining w)
+grow_retain w (inserting hs) = starts (retaining w)
+grow_retain w (deleting n) = starts (retaining w)
+grow_retain w (retaining n) = goes (retaining (n + w))
 
 -- What a text does, by whether it stood before and stands now: neither (so added and deleted since, or deleted
 -- long ago) does nothing.
-abbrev pub textStep : Bool → Bool → What → Run → Step
-textStep false false w r = goes r
-textStep false true w r = growInsert (glyphs w) r
-textStep true false w r = growDelete (width w) r
-textStep true true w r = growRetain (width w) r
+abbrev pub text_step : Bool → Bool → What → Run → Step
+text_step false false w r = goes r
+text_step false true w r = grow_insert (glyphs w) r
+text_step true false w r = grow_delete (width w) r
+text_step true true w r = grow_retain (width w) r
 
 -- An embed that is new is an operation by itself; else it counts as one unit.
-abbrev pub embedStep : Bool → Bool → What → Run → Env → Step
-embedStep false false w r c = goes r
-embedStep false true w r c = record { ends = true; tells = insert (glyphs w) (asSet c) ∷ []; then = idle }
-embedStep true false w r c = growDelete (width w) r
-embedStep true true w r c = growRetain (width w) r
+abbrev pub embed_step : Bool → Bool → What → Run → Env → Step
+embed_step false false w r c = goes r
+embed_step false true w r c = record { ends = true; tells = insert (glyphs w) (as_set c) ∷ []; then = idle }
+embed_step true false w r c = grow_delete (width w) r
+embed_step true true w r c = grow_retain (width w) r
 
 -- A mark k = v: what becomes of the pending attribute of k, from the old value, the current one, and what is pending.
 pub data Change : Type 0 where
@@ -81,7 +81,7 @@ change false false o c p v = stays
 change false true o c p v = cond (eqb c v && not (eqb v 0)) stays (becomes (cond (eqb o v) absent (is v)))
 change true false o c p v = cond (eqb c v) stays (becomes (is c))
 change true true o c absent v = stays
-change true true o c (is w) v = cond (eqb w v) stays (becomes (nonNull v))
+change true true o c (is w) v = cond (eqb w v) stays (becomes (non_null v))
 
 -- A changed pending attribute ends a Retain; any mark that stands now ends an Insert; no mark ends a Delete.
 abbrev pub breaks : Change → Bool → Run → Bool
@@ -91,16 +91,16 @@ breaks ch now (deleting n) = false
 breaks stays now (retaining n) = false
 breaks (becomes s) now (retaining n) = true
 
-abbrev pub markStep : Change → Bool → Run → Step
-markStep ch now r = cond (breaks ch now r) (starts idle) (goes r)
+abbrev pub mark_step : Change → Bool → Run → Step
+mark_step ch now r = cond (breaks ch now r) (starts idle) (goes r)
 
-abbrev pub changeBy : Bool → Bool → ℕ → ℕ → Asm → Change
-changeBy was now k v t = change was now (t.old k) (t.cur k) (t.attrs k) v
+abbrev pub change_by : Bool → Bool → ℕ → ℕ → Asm → Change
+change_by was now k v t = change was now (t.old k) (t.cur k) (t.attrs k) v
 
 abbrev pub step : Bool → Bool → What → Asm → Step
-step was now (text s n) t = textStep was now (text s n) t.run
-step was now (embed e) t = embedStep was now (embed e) t.run t.cur
-step was now (mark k v) t = markStep (changeBy was now k v t) now t.run
+step was now (text s n) t = text_step was now (text s n) t.run
+step was now (embed e) t = embed_step was now (embed e) t.run t.cur
+step was now (mark k v) t = mark_step (change_by was now k v t) now t.run
 
 abbrev pub changed : Change → ℕ → Set → Set
 changed stays k a = a
@@ -109,22 +109,22 @@ changed (becomes s) k a = at k s a
 abbrev pub pending : Bool → Bool → What → Asm → Set
 pending was now (text s n) t = t.attrs
 pending was now (embed e) t = t.attrs
-pending was now (mark k v) t = changed (changeBy was now k v t) k t.attrs
+pending was now (mark k v) t = changed (change_by was now k v t) k t.attrs
 
 abbrev pub told : Step → Asm → List (Op (List Glyph))
-told s t = cond s.ends (addOp t.run t.attrs t.cur) [] ++ s.tells
+told s t = cond s.ends (add_op t.run t.attrs t.cur) [] ++ s.tells
 
 abbrev pub passed : Seen → Seen → Item → Asm → Asm
 passed was now i t =
     record {
       run = (step (was i.flags) (now i.flags) i.what t).then;
       attrs = pending (was i.flags) (now i.flags) i.what t;
-      cur = λ k. passKey now k i (t.cur k);
-      old = λ k. passKey was k i (t.old k);
+      cur = λ k. pass_key now k i (t.cur k);
+      old = λ k. pass_key was k i (t.old k);
     }
 
 abbrev pub gather : Seen → Seen → Asm → List Item → List (Op (List Glyph))
-gather was now t [] = addOp t.run t.attrs t.cur
+gather was now t [] = add_op t.run t.attrs t.cur
 gather was now t (i ∷ l) = told (step (was i.flags) (now i.flags) i.what t) t ++ gather was now (passed was now i t) l
 
 -- `finish`: Retains at the end that set nothing are left out.
@@ -177,16 +177,16 @@ fates was now (i ∷ l) = fate (was i.flags) (now i.flags) i.what ++ fates was n
 -- the number of text and embed items
 abbrev pub carriers : List Item → ℕ
 carriers [] = 0
-carriers (i ∷ l) = cond (isMark i.what) 0 1 + carriers l
+carriers (i ∷ l) = cond (is_mark i.what) 0 1 + carriers l
 
 -- how many units the event's texts hold
-abbrev pub inUnits : List Glyph → ℕ
-inUnits [] = 0
-inUnits (unit p ∷ gs) = suc (inUnits gs)
-inUnits (thing e ∷ gs) = inUnits gs
+abbrev pub in_units : List Glyph → ℕ
+in_units [] = 0
+in_units (unit p ∷ gs) = suc (in_units gs)
+in_units (thing e ∷ gs) = in_units gs
 
-abbrev pub toldUnits : List (Op (List Glyph)) → ℕ
-toldUnits [] = 0
-toldUnits (insert gs a ∷ ops) = inUnits gs + toldUnits ops
-toldUnits (delete n ∷ ops) = toldUnits ops
-toldUnits (retain n a ∷ ops) = toldUnits ops
+abbrev pub told_units : List (Op (List Glyph)) → ℕ
+told_units [] = 0
+told_units (insert gs a ∷ ops) = in_units gs + told_units ops
+told_units (delete n ∷ ops) = told_units ops
+told_units (retain n a ∷ ops) = told_units ops

@@ -1,23 +1,23 @@
 -- The words that bench pieces are written in.
 use Rattle.std.specs.Prelude.{ℕ, zero, suc, true, false, cond, List, [], ◌∷◌, map}
-use Rattle.sets.specs.Sets.{Slot, absent, is, Set, empty, Env, keys, at, asSet}
+use Rattle.sets.specs.Sets.{Slot, absent, is, Set, empty, Env, keys, at, as_set}
 use Rattle.rules.specs.Sheet.{What, text, mark, Item, dead, new}
 use Rattle.rules.specs.Reading.{live, before, Cell, cells, Glyph, unit, thing, Op, insert, delete, retain, read}
-use Rattle.rules.specs.Runs.{Run, Chunk, words, object, runKeys, runCount}
-use Rattle.rules.specs.Calls.{Sheet, unit_at, Call, formatRange, call}
-use Rattle.rules.specs.Shown.{length_of, runsOf, joinedOf, eventOf, itemText, rangeText}
+use Rattle.rules.specs.Runs.{Run, Chunk, words, object, run_keys, run_count}
+use Rattle.rules.specs.Calls.{Sheet, unit_at, Call, format_range, call}
+use Rattle.rules.specs.Shown.{length_of, runs_of, joined_of, event_of, item_text, range_text}
 
 -- Attributes, as keys with values; 0 is null.
 abbrev pub Attrs : Type 0
 Attrs = List (ℕ × ℕ)
 
-abbrev pub pairFor : ℕ → Slot → Attrs → Attrs
-pairFor k absent on = on
-pairFor k (is v) on = (k, v) ∷ on
+abbrev pub pair_for : ℕ → Slot → Attrs → Attrs
+pair_for k absent on = on
+pair_for k (is v) on = (k, v) ∷ on
 
 abbrev pub pairs : List ℕ → Set → Attrs
 pairs [] a = []
-pairs (k ∷ ks) a = pairFor k (a k) (pairs ks a)
+pairs (k ∷ ks) a = pair_for k (a k) (pairs ks a)
 
 -- An operation of an event, and a run: a text by its units (`t`), an embed (`x`).
 pub data Said : Type 0 where
@@ -26,27 +26,27 @@ pub data Said : Type 0 where
   r : ℕ → Attrs → Said
   d : ℕ → Said
 
-abbrev pub saidGlyphs : List ℕ → List Glyph → Attrs → Said
-saidGlyphs us [] a = t [] a
-saidGlyphs us (unit p ∷ gs) a = t (map (unit_at us) (unit p ∷ gs)) a
-saidGlyphs us (thing e ∷ gs) a = x e a
+abbrev pub said_glyphs : List ℕ → List Glyph → Attrs → Said
+said_glyphs us [] a = t [] a
+said_glyphs us (unit p ∷ gs) a = t (map (unit_at us) (unit p ∷ gs)) a
+said_glyphs us (thing e ∷ gs) a = x e a
 
-abbrev pub saidOp : List ℕ → Op (List Glyph) → Said
-saidOp us (insert gs a) = saidGlyphs us gs (pairs keys a)
-saidOp us (delete n) = d n
-saidOp us (retain n a) = r n (pairs keys a)
+abbrev pub said_op : List ℕ → Op (List Glyph) → Said
+said_op us (insert gs a) = said_glyphs us gs (pairs keys a)
+said_op us (delete n) = d n
+said_op us (retain n a) = r n (pairs keys a)
 
-abbrev pub saidChunk : List ℕ → Chunk → Attrs → Said
-saidChunk us (words gs) a = t (map (unit_at us) gs) a
-saidChunk us (object e) a = x e a
+abbrev pub said_chunk : List ℕ → Chunk → Attrs → Said
+said_chunk us (words gs) a = t (map (unit_at us) gs) a
+said_chunk us (object e) a = x e a
 
 -- a run with its keys that have a value
 abbrev pub valued : Env → List ℕ → Attrs
 valued e [] = []
 valued e (k ∷ ks) = (k, e k) ∷ valued e ks
 
-abbrev pub saidRun : List ℕ → Run → Said
-saidRun us q = saidChunk us q.chunk (valued q.force (runKeys q))
+abbrev pub said_run : List ℕ → Run → Said
+said_run us q = said_chunk us q.chunk (valued q.force (run_keys q))
 
 abbrev pub value_of : Cell → ℕ
 value_of c = c.value
@@ -58,11 +58,11 @@ value_at zero (c ∷ cs) = c.value
 value_at (suc n) (c ∷ cs) = value_at n cs
 
 abbrev pub carried : ℕ → List Item → Attrs
-carried n l = pairs keys (asSet (λ k. value_at n (cells live k 0 l)))
+carried n l = pairs keys (as_set (λ k. value_at n (cells live k 0 l)))
 
-abbrev pub liveItems : List Item → List What
-liveItems [] = []
-liveItems (i ∷ l) = let on = liveItems l in cond (dead i) on (i.what ∷ on)
+abbrev pub live_items : List Item → List What
+live_items [] = []
+live_items (i ∷ l) = let on = live_items l in cond (dead i) on (i.what ∷ on)
 
 -- What a piece says of the sheet that its calls leave.
 pub data Says : Type 0 where
@@ -88,17 +88,17 @@ pub data Says : Type 0 where
 
 abbrev pub answer : Sheet → Says → Says
 answer s (holds l) = holds s.items
-answer s (shows l) = shows (liveItems s.items)
+answer s (shows l) = shows (live_items s.items)
 answer s (leaves o) = leaves s
 answer s (long n) = long (length_of s)
-answer s (plain rs) = plain (map (saidRun s.units) (runsOf s))
-answer s (merged rs) = merged (map (saidRun s.units) (joinedOf s))
-answer s (tells ops) = tells (map (saidOp s.units) (eventOf s))
+answer s (plain rs) = plain (map (said_run s.units) (runs_of s))
+answer s (merged rs) = merged (map (said_run s.units) (joined_of s))
+answer s (tells ops) = tells (map (said_op s.units) (event_of s))
 answer s (carries n a) = carries n (carried n s.items)
-answer s (counts ns) = counts (map runCount (runsOf s))
-answer s (item j us) = item j (itemText j s)
-answer s (range i n us) = range i n (rangeText i n s)
-answer s (replays k vs) = replays k (map value_of (read k (eventOf s) (cells before k 0 s.items)))
+answer s (counts ns) = counts (map run_count (runs_of s))
+answer s (item j us) = item j (item_text j s)
+answer s (range i n us) = range i n (range_text i n s)
+answer s (replays k vs) = replays k (map value_of (read k (event_of s) (cells before k 0 s.items)))
 
 -- A piece: where it starts, its calls, the refusal number of each (0: accepted), and what is said of the sheet afterwards.
 pub data Piece : Type 0 where
@@ -128,17 +128,17 @@ abbrev pub stood : ℕ → What → Item
 stood m w = record { num = m; what = w; flags = record { dead = false; added = false; gone = false } }
 
 -- a sheet of one text that was just put
-abbrev pub sheetOf : List ℕ → ℕ → Sheet
-sheetOf us n = record { items = new 0 (text 0 n) ∷ []; next = 1; units = us }
+abbrev pub sheet_of : List ℕ → ℕ → Sheet
+sheet_of us n = record { items = new 0 (text 0 n) ∷ []; next = 1; units = us }
 
 -- a sheet handed in
 abbrev pub handed : List Item → ℕ → List ℕ → Sheet
 handed l m us = record { items = l; next = m; units = us }
 
 -- n marks, numbered downwards from n - 1
-abbrev pub manyMarks : ℕ → List Item
-manyMarks zero = []
-manyMarks (suc n) = stood n (mark 0 0) ∷ manyMarks n
+abbrev pub many_marks : ℕ → List Item
+many_marks zero = []
+many_marks (suc n) = stood n (mark 0 0) ∷ many_marks n
 
 -- Letters (e is the letter d), and the sheets that pieces start from.
 abbrev pub a : ℕ
@@ -160,21 +160,21 @@ abbrev pub bold : Attrs
 bold = (0, 1) ∷ []
 
 abbrev pub ab : Sheet
-ab = sheetOf (a ∷ b ∷ []) 2
+ab = sheet_of (a ∷ b ∷ []) 2
 
 abbrev pub abc : Sheet
-abc = sheetOf (a ∷ b ∷ c ∷ []) 3
+abc = sheet_of (a ∷ b ∷ c ∷ []) 3
 
 -- a letter and a surrogate pair
 abbrev pub face : Sheet
-face = sheetOf (a ∷ 0xD83D ∷ 0xDE00 ∷ []) 3
+face = sheet_of (a ∷ 0xD83D ∷ 0xDE00 ∷ []) 3
 
 abbrev pub b2 : Call
-b2 = formatRange 1 1 (one 0 1)
+b2 = format_range 1 1 (one 0 1)
 
 -- 0=1, a, 0=null, 0=1, bc, 0=null: two marks that Tidy would delete
 abbrev pub idle : Sheet
-idle = after (formatRange 0 3 (one 0 1) ∷ formatRange 1 0 (one 0 0) ∷ []) abc
+idle = after (format_range 0 3 (one 0 1) ∷ format_range 1 0 (one 0 0) ∷ []) abc
 
 -- an item that was deleted before the transaction
 abbrev pub buried : ℕ → What → Item

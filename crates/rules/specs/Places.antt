@@ -1,6 +1,6 @@
 -- Places, and the moves that every edit is made of: Place, Settle, putting, Close.
 use Rattle.std.specs.Prelude.{ℕ, zero, suc, ◌+◌, ◌-◌, Bool, false, cond, ◌||◌, List, [], ◌∷◌, ◌++◌, leb, length}
-use Rattle.sets.specs.Sets.{Slot, absent, is, Set, Env, keys, at, slotIs}
+use Rattle.sets.specs.Sets.{Slot, absent, is, Set, Env, keys, at, slot_is}
 use Rattle.rules.specs.Sheet.{What, text, embed, mark, Item, dead, like, new, width}
 use Rattle.rules.specs.Reading.{live, force}
 
@@ -72,7 +72,7 @@ place (suc n) (i ∷ l) m =
 abbrev pub agrees : Set → What → Bool
 agrees a (text s n) = false
 agrees a (embed e) = false
-agrees a (mark k v) = slotIs (a k) v
+agrees a (mark k v) = slot_is (a k) v
 
 -- Rule Settle: go past what is deleted and past live marks that the set says too; stand still left of anything else.
 abbrev pub settle : Set → List Item → ℕ → At
@@ -82,20 +82,20 @@ settle a (i ∷ l) m =
     cond (dead i || agrees a i.what) on (stay (i ∷ l) m)
 
 -- marks for a set, by ascending key, numbered from m
-abbrev pub markFor : ℕ → Slot → (ℕ → List Item) → ℕ → List Item
-markFor k absent more m = more m
-markFor k (is v) more m = new m (mark k v) ∷ more (suc m)
+abbrev pub mark_for : ℕ → Slot → (ℕ → List Item) → ℕ → List Item
+mark_for k absent more m = more m
+mark_for k (is v) more m = new m (mark k v) ∷ more (suc m)
 
 abbrev pub marks : List ℕ → Set → ℕ → List Item
 marks [] a m = []
-marks (k ∷ ks) a m = markFor k (a k) (marks ks a) m
+marks (k ∷ ks) a m = mark_for k (a k) (marks ks a) m
 
 -- Putting moves the place past what was put.
 abbrev pub put : List Item → List Item → ℕ → At
 put new l m = record { left = new; right = l; next = m + length new }
 
-abbrev pub putMarks : Set → List Item → ℕ → At
-putMarks a l m = put (marks keys a m) l m
+abbrev pub put_marks : Set → List Item → ℕ → At
+put_marks a l m = put (marks keys a m) l m
 
 -- the set without a mark's key
 abbrev pub forget : What → Set → Set
@@ -106,9 +106,9 @@ forget (mark k v) a = at k absent a
 -- Rule Close: what is remembered has to be in force again. A live mark that says just that does it for its key, which is
 -- then struck off; deleted items are passed too. At the first other item the keys that are left get their marks.
 abbrev pub close : Set → List Item → ℕ → At
-close r [] m = putMarks r [] m
+close r [] m = put_marks r [] m
 close r (i ∷ l) m =
     let pass = over i (close r l m) in
     let drop = over i (close (forget i.what r) l m) in
-    let stop = putMarks r (i ∷ l) m in
+    let stop = put_marks r (i ∷ l) m in
     cond (dead i) pass (cond (agrees r i.what) drop stop)

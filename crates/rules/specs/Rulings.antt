@@ -1,14 +1,14 @@
 -- What a call asks for, before it is granted or refused; the refusals one by one; and what a sound sheet is.
 use Rattle.std.specs.Prelude.{ℕ, zero, ◌+◌, ◌-◌, ◌≤◌, ◌<◌, min, ◌≡◌, Bool, true, false, cond, not, ◌||◌, List, [], ◌∷◌, ◌++◌, ◌↔◌, eqb, ltb, length}
-use Rattle.units.specs.Surrogates.{paired, splitsPair}
+use Rattle.units.specs.Surrogates.{paired, splits_pair}
 use Rattle.sets.specs.Sets.{is, Set}
 use Rattle.rules.specs.Sheet.{What, text, embed, mark, Item, begin}
 use Rattle.rules.specs.Reading.{Op, insert, delete, retain}
 use Rattle.rules.specs.Places.{At, whole, stay, Move}
-use Rattle.rules.specs.Edits.{byIndex, plainText, plainEmbed, insertWith, format, remove}
+use Rattle.rules.specs.Edits.{by_index, plain_text, plain_embed, insert_with, format, remove}
 use Rattle.rules.specs.Delta.{delta}
 use Rattle.rules.specs.Sound.{SoundList}
-use Rattle.rules.specs.Calls.{Sheet, Outcome, refuse, visibleUnits, badRange, tooLong, roomy, Body, words, object, Call, insertText, insertTextWith, insertEmbed, insertEmbedWith, formatRange, removeRange, applyDelta, beginNow, check, laidOut, newUnits, AllPaired}
+use Rattle.rules.specs.Calls.{Sheet, Outcome, refuse, visible_units, bad_range, too_long, roomy, Body, words, object, Call, insert_text, insert_text_with, insert_embed, insert_embed_with, format_range, remove_range, apply_delta, begin_now, check, laid_out, new_units, AllPaired}
 
 -- The limits: a list of at most 2,048 items, at most 16,384 units.
 pub record Within (s : Sheet) : Type 0 where
@@ -39,31 +39,31 @@ pub record Ruling : Type 0 where
   pub units : List ℕ
 
 abbrev pub seen : Sheet → List ℕ
-seen s = visibleUnits s.units s.items
+seen s = visible_units s.units s.items
 
-abbrev pub asIs : Sheet → Ruling
-asIs s = record { fault = 0; place = stay s.items s.next; units = s.units }
+abbrev pub as_is : Sheet → Ruling
+as_is s = record { fault = 0; place = stay s.items s.next; units = s.units }
 
-abbrev pub textRuling : ℕ → List ℕ → (What → Move) → Sheet → Ruling
-textRuling i [] f s = asIs s
-textRuling i (u ∷ us) f s = record {
-  fault = cond (not (paired (u ∷ us))) 3 (cond (splitsPair (seen s) i) 2 0);
-  place = byIndex i (f (text (length s.units) (length (u ∷ us)))) s.items s.next;
+abbrev pub text_ruling : ℕ → List ℕ → (What → Move) → Sheet → Ruling
+text_ruling i [] f s = as_is s
+text_ruling i (u ∷ us) f s = record {
+  fault = cond (not (paired (u ∷ us))) 3 (cond (splits_pair (seen s) i) 2 0);
+  place = by_index i (f (text (length s.units) (length (u ∷ us)))) s.items s.next;
   units = s.units ++ (u ∷ us);
 }
 
-abbrev pub embedRuling : ℕ → ℕ → (What → Move) → Sheet → Ruling
-embedRuling i e f s = record { fault = cond (splitsPair (seen s) i) 2 0; place = byIndex i (f (embed e)) s.items s.next; units = s.units }
+abbrev pub embed_ruling : ℕ → ℕ → (What → Move) → Sheet → Ruling
+embed_ruling i e f s = record { fault = cond (splits_pair (seen s) i) 2 0; place = by_index i (f (embed e)) s.items s.next; units = s.units }
 
 abbrev pub ruling : Call → Sheet → Ruling
-ruling (insertText i us) s = textRuling i us plainText s
-ruling (insertTextWith i us a) s = textRuling i us (λ w. insertWith w a) s
-ruling (insertEmbed i e) s = embedRuling i e plainEmbed s
-ruling (insertEmbedWith i e a) s = embedRuling i e (λ w. insertWith w a) s
-ruling (formatRange i n a) s = record { fault = cond (badRange (seen s) i n) 2 0; place = byIndex i (format a n) s.items s.next; units = s.units }
-ruling (removeRange i n) s = record { fault = cond (badRange (seen s) i n) 2 (cond (tooLong (seen s) i n) 1 0); place = remove i n s.items s.next; units = s.units }
-ruling (applyDelta ops) s = record { fault = check (seen s) 0 ops; place = delta (laidOut (length s.units) ops) s.items s.next; units = s.units ++ newUnits ops }
-ruling beginNow s = record { fault = 0; place = stay (begin s.items) s.next; units = s.units }
+ruling (insert_text i us) s = text_ruling i us plain_text s
+ruling (insert_text_with i us a) s = text_ruling i us (λ w. insert_with w a) s
+ruling (insert_embed i e) s = embed_ruling i e plain_embed s
+ruling (insert_embed_with i e a) s = embed_ruling i e (λ w. insert_with w a) s
+ruling (format_range i n a) s = record { fault = cond (bad_range (seen s) i n) 2 0; place = by_index i (format a n) s.items s.next; units = s.units }
+ruling (remove_range i n) s = record { fault = cond (bad_range (seen s) i n) 2 (cond (too_long (seen s) i n) 1 0); place = remove i n s.items s.next; units = s.units }
+ruling (apply_delta ops) s = record { fault = check (seen s) 0 ops; place = delta (laid_out (length s.units) ops) s.items s.next; units = s.units ++ new_units ops }
+ruling begin_now s = record { fault = 0; place = stay (begin s.items) s.next; units = s.units }
 
 -- the sheet as ruled
 abbrev pub ruled : Ruling → Sheet
@@ -71,14 +71,14 @@ ruled r = record { items = whole r.place; next = r.place.next; units = r.units }
 
 -- the units that a call brings
 abbrev pub brought : Call → List ℕ
-brought (insertText i us) = us
-brought (insertTextWith i us a) = us
-brought (insertEmbed i e) = []
-brought (insertEmbedWith i e a) = []
-brought (formatRange i n a) = []
-brought (removeRange i n) = []
-brought (applyDelta ops) = newUnits ops
-brought beginNow = []
+brought (insert_text i us) = us
+brought (insert_text_with i us a) = us
+brought (insert_embed i e) = []
+brought (insert_embed_with i e a) = []
+brought (format_range i n a) = []
+brought (remove_range i n) = []
+brought (apply_delta ops) = new_units ops
+brought begin_now = []
 
 -- A faulty call is refused with its fault, one that does not fit with 4, and else the sheet is as ruled.
 abbrev pub decided : Ruling → Sheet → Outcome
@@ -86,40 +86,40 @@ decided r s = let go = roomy r.place r.units s in cond (eqb r.fault 0) go (refus
 
 -- The four reasons, each by itself. UNITS: handed text has a surrogate without its other half.
 abbrev pub unwhole : Call → Sheet → Bool
-unwhole (insertText i us) s = not (paired us)
-unwhole (insertTextWith i us a) s = not (paired us)
-unwhole (insertEmbed i e) s = false
-unwhole (insertEmbedWith i e a) s = false
-unwhole (formatRange i n a) s = false
-unwhole (removeRange i n) s = false
-unwhole (applyDelta ops) s = eqb (check (seen s) 0 ops) 3
-unwhole beginNow s = false
+unwhole (insert_text i us) s = not (paired us)
+unwhole (insert_text_with i us a) s = not (paired us)
+unwhole (insert_embed i e) s = false
+unwhole (insert_embed_with i e a) s = false
+unwhole (format_range i n a) s = false
+unwhole (remove_range i n) s = false
+unwhole (apply_delta ops) s = eqb (check (seen s) 0 ops) 3
+unwhole begin_now s = false
 
 -- PAIR: the index, or the end of a range inside the visible text, stands inside a pair. Empty text has no place to be wrong.
-abbrev pub textInPair : ℕ → List ℕ → Sheet → Bool
-textInPair i [] s = false
-textInPair i (u ∷ us) s = splitsPair (seen s) i
+abbrev pub text_in_pair : ℕ → List ℕ → Sheet → Bool
+text_in_pair i [] s = false
+text_in_pair i (u ∷ us) s = splits_pair (seen s) i
 
-abbrev pub inPair : Call → Sheet → Bool
-inPair (insertText i us) s = textInPair i us s
-inPair (insertTextWith i us a) s = textInPair i us s
-inPair (insertEmbed i e) s = splitsPair (seen s) i
-inPair (insertEmbedWith i e a) s = splitsPair (seen s) i
-inPair (formatRange i n a) s = splitsPair (seen s) i || splitsPair (seen s) (i + n)
-inPair (removeRange i n) s = splitsPair (seen s) i || splitsPair (seen s) (i + n)
-inPair (applyDelta ops) s = eqb (check (seen s) 0 ops) 2
-inPair beginNow s = false
+abbrev pub in_pair : Call → Sheet → Bool
+in_pair (insert_text i us) s = text_in_pair i us s
+in_pair (insert_text_with i us a) s = text_in_pair i us s
+in_pair (insert_embed i e) s = splits_pair (seen s) i
+in_pair (insert_embed_with i e a) s = splits_pair (seen s) i
+in_pair (format_range i n a) s = splits_pair (seen s) i || splits_pair (seen s) (i + n)
+in_pair (remove_range i n) s = splits_pair (seen s) i || splits_pair (seen s) (i + n)
+in_pair (apply_delta ops) s = eqb (check (seen s) 0 ops) 2
+in_pair begin_now s = false
 
 -- SHORT: a removal of more units than stand right of its place.
-abbrev pub tooFar : Call → Sheet → Bool
-tooFar (insertText i us) s = false
-tooFar (insertTextWith i us a) s = false
-tooFar (insertEmbed i e) s = false
-tooFar (insertEmbedWith i e a) s = false
-tooFar (formatRange i n a) s = false
-tooFar (removeRange i n) s = ltb (length (seen s) - i) n
-tooFar (applyDelta ops) s = eqb (check (seen s) 0 ops) 1
-tooFar beginNow s = false
+abbrev pub too_far : Call → Sheet → Bool
+too_far (insert_text i us) s = false
+too_far (insert_text_with i us a) s = false
+too_far (insert_embed i e) s = false
+too_far (insert_embed_with i e a) s = false
+too_far (format_range i n a) s = false
+too_far (remove_range i n) s = ltb (length (seen s) - i) n
+too_far (apply_delta ops) s = eqb (check (seen s) 0 ops) 1
+too_far begin_now s = false
 
 -- ROOM: what the rules give passes a limit.
 abbrev pub crowded : Call → Sheet → Bool
@@ -152,32 +152,32 @@ FineOps (delete n ∷ ops) = FineOps ops
 FineOps (retain n a ∷ ops) = FineSet Byte a × FineOps ops
 
 abbrev pub FineCall : Call → Type 0
-FineCall (insertText i us) = Unit {0}
-FineCall (insertTextWith i us a) = FineSet Byte a
-FineCall (insertEmbed i e) = e < 4294967296
-FineCall (insertEmbedWith i e a) = (e < 4294967296) × FineSet Byte a
-FineCall (formatRange i n a) = FineSet Byte a
-FineCall (removeRange i n) = Unit {0}
-FineCall (applyDelta ops) = FineOps ops
-FineCall beginNow = Unit {0}
+FineCall (insert_text i us) = Unit {0}
+FineCall (insert_text_with i us a) = FineSet Byte a
+FineCall (insert_embed i e) = e < 4294967296
+FineCall (insert_embed_with i e a) = (e < 4294967296) × FineSet Byte a
+FineCall (format_range i n a) = FineSet Byte a
+FineCall (remove_range i n) = Unit {0}
+FineCall (apply_delta ops) = FineOps ops
+FineCall begin_now = Unit {0}
 
 -- every call but Begin
 abbrev pub Edit : Call → Type 0
-Edit (insertText i us) = Unit {0}
-Edit (insertTextWith i us a) = Unit {0}
-Edit (insertEmbed i e) = Unit {0}
-Edit (insertEmbedWith i e a) = Unit {0}
-Edit (formatRange i n a) = Unit {0}
-Edit (removeRange i n) = Unit {0}
-Edit (applyDelta ops) = Unit {0}
-Edit beginNow = ⊥
+Edit (insert_text i us) = Unit {0}
+Edit (insert_text_with i us a) = Unit {0}
+Edit (insert_embed i e) = Unit {0}
+Edit (insert_embed_with i e a) = Unit {0}
+Edit (format_range i n a) = Unit {0}
+Edit (remove_range i n) = Unit {0}
+Edit (apply_delta ops) = Unit {0}
+Edit begin_now = ⊥
 
 -- In a delta: what is wrong with one operation, whose place in the old visible text is c ..
-abbrev pub faultAt : List ℕ → ℕ → Op Body → ℕ
-faultAt us c (insert (words t) a) = cond (paired t) 0 3
-faultAt us c (insert (object e) a) = 0
-faultAt us c (delete n) = cond (splitsPair us (c + n)) 2 (cond (tooLong us c n) 1 0)
-faultAt us c (retain n a) = cond (splitsPair us (c + n)) 2 0
+abbrev pub fault_at : List ℕ → ℕ → Op Body → ℕ
+fault_at us c (insert (words t) a) = cond (paired t) 0 3
+fault_at us c (insert (object e) a) = 0
+fault_at us c (delete n) = cond (splits_pair us (c + n)) 2 (cond (too_long us c n) 1 0)
+fault_at us c (retain n a) = cond (splits_pair us (c + n)) 2 0
 
 -- .. and the place behind it: what is inserted stands left of the place, and no place is past the end.
 abbrev pub behind : List ℕ → ℕ → Op Body → ℕ
@@ -187,10 +187,10 @@ behind us c (retain n a) = min (length us) (c + n)
 
 -- The first operation, in order from place c, that something is wrong with, has the fault r.
 pub data FirstFault (us : List ℕ) (r : ℕ) : ℕ → List (Op Body) → Type 0 where
-  here : {c : ℕ} {op : Op Body} {ops : List (Op Body)} → faultAt us c op ≡ r → FirstFault us r c (op ∷ ops)
-  later : {c : ℕ} {op : Op Body} {ops : List (Op Body)} → faultAt us c op ≡ 0 → FirstFault us r (behind us c op) ops → FirstFault us r c (op ∷ ops)
+  here : {c : ℕ} {op : Op Body} {ops : List (Op Body)} → fault_at us c op ≡ r → FirstFault us r c (op ∷ ops)
+  later : {c : ℕ} {op : Op Body} {ops : List (Op Body)} → fault_at us c op ≡ 0 → FirstFault us r (behind us c op) ops → FirstFault us r c (op ∷ ops)
 
 -- Nothing is wrong with any operation.
 pub data NoFault (us : List ℕ) : ℕ → List (Op Body) → Type 0 where
   end : {c : ℕ} → NoFault us c []
-  on : {c : ℕ} {op : Op Body} {ops : List (Op Body)} → faultAt us c op ≡ 0 → NoFault us (behind us c op) ops → NoFault us c (op ∷ ops)
+  on : {c : ℕ} {op : Op Body} {ops : List (Op Body)} → fault_at us c op ≡ 0 → NoFault us (behind us c op) ops → NoFault us c (op ∷ ops)

@@ -5,9 +5,9 @@ use Rattle.rules.specs.Reading.{Seen, Glyph, glyphs}
 use Rattle.rules.specs.Event.{event, Act, keep, drop, give, script, fates}
 
 -- the units and embeds that a reading sees
-abbrev pub seenBy : Seen → List Item → List Glyph
-seenBy f [] = []
-seenBy f (i ∷ l) = cond (f i.flags) (glyphs i.what) [] ++ seenBy f l
+abbrev pub seen_by : Seen → List Item → List Glyph
+seen_by f [] = []
+seen_by f (i ∷ l) = cond (f i.flags) (glyphs i.what) [] ++ seen_by f l
 
 -- An old unit, and whether it stays.
 pub record Fate : Type 0 where
@@ -19,13 +19,13 @@ fated b [] = []
 fated b (g ∷ gs) = record { glyph = g; stays = b } ∷ fated b gs
 
 -- The script over the old units: keep and drop each take the next one; those left over stay.
-abbrev pub fatesOver : List Act → List Glyph → List Fate
-fatesOver [] gs = fated true gs
-fatesOver (keep ∷ acts) [] = []
-fatesOver (keep ∷ acts) (g ∷ gs) = record { glyph = g; stays = true } ∷ fatesOver acts gs
-fatesOver (drop ∷ acts) [] = []
-fatesOver (drop ∷ acts) (g ∷ gs) = record { glyph = g; stays = false } ∷ fatesOver acts gs
-fatesOver (give x ∷ acts) gs = fatesOver acts gs
+abbrev pub fates_over : List Act → List Glyph → List Fate
+fates_over [] gs = fated true gs
+fates_over (keep ∷ acts) [] = []
+fates_over (keep ∷ acts) (g ∷ gs) = record { glyph = g; stays = true } ∷ fates_over acts gs
+fates_over (drop ∷ acts) [] = []
+fates_over (drop ∷ acts) (g ∷ gs) = record { glyph = g; stays = false } ∷ fates_over acts gs
+fates_over (give x ∷ acts) gs = fates_over acts gs
 
 -- the new units that a script gives, in order
 abbrev pub given : List Act → List Glyph
@@ -35,13 +35,13 @@ given (drop ∷ acts) = given acts
 given (give g ∷ acts) = g ∷ given acts
 
 -- what the items say: each unit seen before, and whether it is seen now
-abbrev pub oldUnits : Seen → Seen → List Item → List Fate
-oldUnits was now [] = []
-oldUnits was now (i ∷ l) = cond (was i.flags) (fated (now i.flags) (glyphs i.what)) [] ++ oldUnits was now l
+abbrev pub old_units : Seen → Seen → List Item → List Fate
+old_units was now [] = []
+old_units was now (i ∷ l) = cond (was i.flags) (fated (now i.flags) (glyphs i.what)) [] ++ old_units was now l
 
 -- the units seen now and not before
-abbrev pub newUnits : Seen → Seen → List Item → List Glyph
-newUnits was now l = seenBy (λ f. not (was f) && now f) l
+abbrev pub new_units : Seen → Seen → List Item → List Glyph
+new_units was now l = seen_by (λ f. not (was f) && now f) l
 
 -- equal but for keeps at the end
 pub record UpToKeeps (a b : List Act) : Type 0 where
@@ -52,5 +52,5 @@ pub record UpToKeeps (a b : List Act) : Type 0 where
 -- it drops exactly the old units that are no longer seen, keeps all others, and gives exactly the new ones.
 pub record Tells (was now : Seen) (l : List Item) (old : List Glyph) : Type 0 where
   pub acts : UpToKeeps (script (event was now l)) (fates was now l)
-  pub olds : fatesOver (script (event was now l)) old ≡ oldUnits was now l
-  pub news : given (script (event was now l)) ≡ newUnits was now l
+  pub olds : fates_over (script (event was now l)) old ≡ old_units was now l
+  pub news : given (script (event was now l)) ≡ new_units was now l

@@ -50,7 +50,7 @@ width (text s n) = n
 width (embed e) = 1
 width (mark k v) = 0
 
-abbrev pub isMark : What → Bool
-isMark (text s n) = false
-isMark (embed e) = false
-isMark (mark k v) = true
+abbrev pub is_mark : What → Bool
+is_mark (text s n) = false
+is_mark (embed e) = false
+is_mark (mark k v) = true

@@ -2,9 +2,9 @@
 use Rattle.std.specs.Prelude.{ℕ, ◌+◌, ◌-◌, ◌≤◌, ◌<◌, ◌≡◌, cond, List, [], ◌∷◌, ◌++◌, map, leb, length, get_or, take, drop}
 use Rattle.sets.specs.Sets.{lay}
 use Rattle.rules.specs.Sheet.{Item}
-use Rattle.rules.specs.Reading.{live, force, Glyph, thing, unitsOf, Cell, paint, cells, layCell, visible, Op, insert, delete, retain, read}
+use Rattle.rules.specs.Reading.{live, force, Glyph, thing, units_of, Cell, paint, cells, lay_cell, visible, Op, insert, delete, retain, read}
 use Rattle.rules.specs.Delta.{spelt}
-use Rattle.rules.specs.Calls.{Sheet, Body, words, object, Call, insertText, insertTextWith, insertEmbed, insertEmbedWith, formatRange, removeRange, applyDelta, beginNow, laidOut}
+use Rattle.rules.specs.Calls.{Sheet, Body, words, object, Call, insert_text, insert_text_with, insert_embed, insert_embed_with, format_range, remove_range, apply_delta, begin_now, laid_out}
 
 -- the value on the last cell, or v where there is none
 abbrev pub last_or : ℕ → List Cell → ℕ
@@ -23,20 +23,20 @@ abbrev pub put_at : ℕ → List Cell → List Cell → List Cell
 put_at i new cs = take i cs ++ new ++ drop i cs
 
 -- the units that a text will have: the next ones
-abbrev pub nextUnits : Sheet → List ℕ → List Glyph
-nextUnits s us = unitsOf (length s.units) (length us)
+abbrev pub next_units : Sheet → List ℕ → List Glyph
+next_units s us = units_of (length s.units) (length us)
 
 -- With attributes, the new cells carry exactly those. Format lays its value on the range, if it has one for the key.
 -- Remove takes its cells out. A delta does what reading it does.
 abbrev pub shows : ℕ → Call → Sheet → List Cell
-shows j (insertText i us) s = put_at i (paint (inherited j i s.items) (nextUnits s us)) (cells live j 0 s.items)
-shows j (insertTextWith i us a) s = put_at i (paint (lay (a j) 0) (nextUnits s us)) (cells live j 0 s.items)
-shows j (insertEmbed i e) s = put_at i (paint (inherited j i s.items) (thing e ∷ [])) (cells live j 0 s.items)
-shows j (insertEmbedWith i e a) s = put_at i (paint (lay (a j) 0) (thing e ∷ [])) (cells live j 0 s.items)
-shows j (formatRange i n a) s = let cs = cells live j 0 s.items in take i cs ++ map (layCell (a j)) (take n (drop i cs)) ++ drop n (drop i cs)
-shows j (removeRange i n) s = let cs = cells live j 0 s.items in take i cs ++ drop n (drop i cs)
-shows j (applyDelta ops) s = read j (map spelt (laidOut (length s.units) ops)) (cells live j 0 s.items)
-shows j beginNow s = cells live j 0 s.items
+shows j (insert_text i us) s = put_at i (paint (inherited j i s.items) (next_units s us)) (cells live j 0 s.items)
+shows j (insert_text_with i us a) s = put_at i (paint (lay (a j) 0) (next_units s us)) (cells live j 0 s.items)
+shows j (insert_embed i e) s = put_at i (paint (inherited j i s.items) (thing e ∷ [])) (cells live j 0 s.items)
+shows j (insert_embed_with i e a) s = put_at i (paint (lay (a j) 0) (thing e ∷ [])) (cells live j 0 s.items)
+shows j (format_range i n a) s = let cs = cells live j 0 s.items in take i cs ++ map (lay_cell (a j)) (take n (drop i cs)) ++ drop n (drop i cs)
+shows j (remove_range i n) s = let cs = cells live j 0 s.items in take i cs ++ drop n (drop i cs)
+shows j (apply_delta ops) s = read j (map spelt (laid_out (length s.units) ops)) (cells live j 0 s.items)
+shows j begin_now s = cells live j 0 s.items
 
 -- Format cell by cell: the cell with number p inside the range has g laid on it, every other is as it was (d stands for no cell).
 pub record Formatted (i n : ℕ) (g : Cell → Cell) (old new : List Cell) (d : Cell) (p : ℕ) : Type 0 where
@@ -59,12 +59,12 @@ losses (delete n ∷ ops) = n + losses ops
 losses (retain n a ∷ ops) = losses ops
 
 -- The visible length after an accepted call.
-abbrev pub lengthAfter : Call → Sheet → ℕ
-lengthAfter (insertText i us) s = visible s.items + length us
-lengthAfter (insertTextWith i us a) s = visible s.items + length us
-lengthAfter (insertEmbed i e) s = visible s.items + 1
-lengthAfter (insertEmbedWith i e a) s = visible s.items + 1
-lengthAfter (formatRange i n a) s = visible s.items
-lengthAfter (removeRange i n) s = visible s.items - n
-lengthAfter (applyDelta ops) s = visible s.items + gains ops - losses ops
-lengthAfter beginNow s = visible s.items
+abbrev pub length_after : Call → Sheet → ℕ
+length_after (insert_text i us) s = visible s.items + length us
+length_after (insert_text_with i us a) s = visible s.items + length us
+length_after (insert_embed i e) s = visible s.items + 1
+length_after (insert_embed_with i e a) s = visible s.items + 1
+length_after (format_range i n a) s = visible s.items
+length_after (remove_range i n) s = visible s.items - n
+length_after (apply_delta ops) s = visible s.items + gains ops - losses ops
+length_after begin_now s = visible s.items

@@ -13,11 +13,11 @@ use Rattle.sets.specs.Sets.{at}
 use Rattle.sets.specs.Bits.{bit, rest_of, Rest, BitIs, BitSet}
 
 -- how the code computes it: (m >> k) % 2
-pub bit-shift : (m k : ℕ) → m / 2 ^ k % 2 ≡ bit m k
+pub bit_shift : (m k : ℕ) → m / 2 ^ k % 2 ≡ bit m k
 unfolding bit
-bit-shift m zero = omega arith
-bit-shift m (suc k) =
-    ap (λ (x : ℕ). x % 2) (ap (λ (x : ℕ). m / 2 ^ x) (sym (one-add k)) ∙ sym (shr-shr m 1 k)) ∙ bit-shift (m / 2) k
+bit_shift m zero = omega arith
+bit_shift m (suc k) =
+    ap (λ (x : ℕ). x % 2) (ap (λ (x : ℕ). m / 2 ^ x) (sym (one-add k)) ∙ sym (shr-shr m 1 k)) ∙ bit_shift (m / 2) k
 
 pub bit-lt : (m k : ℕ) → bit m k < 2
 unfolding bit
@@ -31,40 +31,40 @@ bit-zero (suc k) = bit-zero k
 
 -- ---- setting and clearing
 
-half-add : (m k : ℕ) → (m + 2 ^ suc k) / 2 ≡ m / 2 + 2 ^ k
-half-add m k = omega (arith, pow-suc 2 k)
+half_add : (m k : ℕ) → (m + 2 ^ suc k) / 2 ≡ m / 2 + 2 ^ k
+half_add m k = omega (arith, pow-suc 2 k)
 
-half-sub : (m k : ℕ) → (m - 2 ^ suc k) / 2 ≡ m / 2 - 2 ^ k
-half-sub m k = omega (arith, pow-suc 2 k)
+half_sub : (m k : ℕ) → (m - 2 ^ suc k) / 2 ≡ m / 2 - 2 ^ k
+half_sub m k = omega (arith, pow-suc 2 k)
 
 pub bit-set-same : (m k : ℕ) → bit m k ≡ 0 → bit (m + 2 ^ k) k ≡ 1
 unfolding bit
 bit-set-same m zero h = omega arith
-bit-set-same m (suc k) h = rw half-add (bit-set-same (m / 2) k h)
+bit-set-same m (suc k) h = rw half_add (bit-set-same (m / 2) k h)
 
 pub bit-set-other : (m k j : ℕ) → bit m k ≡ 0 → (j ≡ k → ⊥) → bit (m + 2 ^ k) j ≡ bit m j
 unfolding bit
 bit-set-other m zero zero h n = absurd (n refl)
 bit-set-other m zero (suc j) h n = ap (λ (x : ℕ). bit x j) (omega arith)
 bit-set-other m (suc k) zero h n = omega (arith, pow-suc 2 k)
-bit-set-other m (suc k) (suc j) h n = rw half-add (bit-set-other (m / 2) k j h (λ e. n (ap suc e)))
+bit-set-other m (suc k) (suc j) h n = rw half_add (bit-set-other (m / 2) k j h (λ e. n (ap suc e)))
 
 pub bit_le : (m k : ℕ) → bit m k ≡ 1 → 2 ^ k ≤ m
 unfolding bit
 bit_le m zero h = omega arith
 bit_le m (suc k) h = omega (arith, pow-suc 2 k, bit_le (m / 2) k h)
 
-pub bit-clear-same : (m k : ℕ) → bit m k ≡ 1 → bit (m - 2 ^ k) k ≡ 0
+pub bit_clear-same : (m k : ℕ) → bit m k ≡ 1 → bit (m - 2 ^ k) k ≡ 0
 unfolding bit
-bit-clear-same m zero h = omega arith
-bit-clear-same m (suc k) h = rw half-sub (bit-clear-same (m / 2) k h)
+bit_clear-same m zero h = omega arith
+bit_clear-same m (suc k) h = rw half_sub (bit_clear-same (m / 2) k h)
 
-pub bit-clear-other : (m k j : ℕ) → bit m k ≡ 1 → (j ≡ k → ⊥) → bit (m - 2 ^ k) j ≡ bit m j
+pub bit_clear-other : (m k j : ℕ) → bit m k ≡ 1 → (j ≡ k → ⊥) → bit (m - 2 ^ k) j ≡ bit m j
 unfolding bit
-bit-clear-other m zero zero h n = absurd (n refl)
-bit-clear-other m zero (suc j) h n = ap (λ (x : ℕ). bit x j) (omega arith)
-bit-clear-other m (suc k) zero h n = omega (arith, pow-suc 2 k, bit_le (m / 2) k h)
-bit-clear-other m (suc k) (suc j) h n = rw half-sub (bit-clear-other (m / 2) k j h (λ e. n (ap suc e)))
+bit_clear-other m zero zero h n = absurd (n refl)
+bit_clear-other m zero (suc j) h n = ap (λ (x : ℕ). bit x j) (omega arith)
+bit_clear-other m (suc k) zero h n = omega (arith, pow-suc 2 k, bit_le (m / 2) k h)
+bit_clear-other m (suc k) (suc j) h n = rw half_sub (bit_clear-other (m / 2) k j h (λ e. n (ap suc e)))
 
 -- a bit that is clear is set within the width
 pub bit-set-lt : (w m k : ℕ) → m < 2 ^ w → k < w → bit m k ≡ 0 → m + 2 ^ k < 2 ^ w
@@ -148,13 +148,13 @@ at_other k j s f n = rw (ne_eqb j k n)
 -- ---- what the code's steps do to a mask
 
 pub bit_is : (m k : ℕ) → BitIs m k (m / 2 ^ k % 2)
-bit_is m k = record { is = bit-shift m k; lt = omega arith }
+bit_is m k = record { is = bit_shift m k; lt = omega arith }
 
-pub set-already : (m k : ℕ) → bit m k ≡ 1 → BitSet m k m
-set-already m k e = record { each = at_key k 1 (bit m) (bit m) e (λ j n. refl) }
+pub set_already : (m k : ℕ) → bit m k ≡ 1 → BitSet m k m
+set_already m k e = record { each = at_key k 1 (bit m) (bit m) e (λ j n. refl) }
 
-pub set-now : (m k : ℕ) → bit m k ≡ 0 → BitSet m k (m + 2 ^ k)
-set-now m k e = record { each = at_key k 1 (bit m) (bit (m + 2 ^ k)) (bit-set-same m k e) (λ j n. bit-set-other m k j e n) }
+pub set_now : (m k : ℕ) → bit m k ≡ 0 → BitSet m k (m + 2 ^ k)
+set_now m k e = record { each = at_key k 1 (bit m) (bit (m + 2 ^ k)) (bit-set-same m k e) (λ j n. bit-set-other m k j e n) }
 
 -- The lowest bit of a mask that is not 0.
 pub record Low (m k : ℕ) : Type 0 where

@@ -10,8 +10,8 @@ use lib.Dec.{eqb}
 use lib.ListN.{length}
 use borrow.Author.Tests.{eqb-true, eqb-false}
 use Rattle.sets.specs.declared.Key.TheVariants.{At, Nothing}
-use Rattle.sets.specs.Sets.{Slot, absent, is, Set, isAbsent, keys, those, present}
-use Rattle.sets.specs.Bits.{bit, keys_of, firstKey, rest_of, Rest}
+use Rattle.sets.specs.Sets.{Slot, absent, is, Set, is_absent, keys, those, present}
+use Rattle.sets.specs.Bits.{bit, keys_of, first_key, rest_of, Rest}
 
 -- ---- the sixteen keys, as a count
 
@@ -20,17 +20,17 @@ unfoldable pub picks : ℕ → ℕ → (ℕ → Bool) → List ℕ
 picks zero i f = []
 picks (suc n) i f = cond (f 0) (i ∷ picks n (suc i) (λ k. f (suc k))) (picks n (suc i) (λ k. f (suc k)))
 
-pub those-picks : (p : ℕ → Bool) → those p keys ≡ picks 16 0 p
+pub those_picks : (p : ℕ → Bool) → those p keys ≡ picks 16 0 p
 unfolding keys picks
-those-picks p = refl
+those_picks p = refl
 
-pub picks-ext : (n i : ℕ) (f g : ℕ → Bool) → ((k : ℕ) → k < n → f k ≡ g k) → picks n i f ≡ picks n i g
+pub picks_ext : (n i : ℕ) (f g : ℕ → Bool) → ((k : ℕ) → k < n → f k ≡ g k) → picks n i f ≡ picks n i g
 unfolding picks
-picks-ext zero i f g h = refl
-picks-ext (suc n) i f g h =
+picks_ext zero i f g h = refl
+picks_ext (suc n) i f g h =
     let e : f 0 ≡ g 0 = h 0 (zero-lt-suc n) in
     let t : picks n (suc i) (λ k. f (suc k)) ≡ picks n (suc i) (λ k. g (suc k)) =
-    picks-ext n (suc i) (λ k. f (suc k)) (λ k. g (suc k)) (λ k l. h (suc k) (omega arith)) in
+    picks_ext n (suc i) (λ k. f (suc k)) (λ k. g (suc k)) (λ k l. h (suc k) (omega arith)) in
     rw (e, t)
 
 -- does f hold at each of n keys?
@@ -54,11 +54,11 @@ unfolding every
 at_every zero f h = refl
 at_every (suc n) f h = rw (h 0 (zero-lt-suc n)) (at_every n (λ k. f (suc k)) (λ k l. h (suc k) (omega arith)))
 
-pub every-ext : (n : ℕ) (f g : ℕ → Bool) → ((k : ℕ) → k < n → f k ≡ g k) → every n f ≡ every n g
+pub every_ext : (n : ℕ) (f g : ℕ → Bool) → ((k : ℕ) → k < n → f k ≡ g k) → every n f ≡ every n g
 unfolding every
-every-ext zero f g h = refl
-every-ext (suc n) f g h =
-    ap₂ ◌&&◌ (h 0 (zero-lt-suc n)) (every-ext n (λ k. f (suc k)) (λ k. g (suc k)) (λ k l. h (suc k) (omega arith)))
+every_ext zero f g h = refl
+every_ext (suc n) f g h =
+    ap₂ ◌&&◌ (h 0 (zero-lt-suc n)) (every_ext n (λ k. f (suc k)) (λ k. g (suc k)) (λ k l. h (suc k) (omega arith)))
 
 -- two tests that come true together are one
 pub both_ways : (a b : Bool) → (a ≡ true → b ≡ true) → (b ≡ true → a ≡ true) → a ≡ b
@@ -75,7 +75,7 @@ none (suc n) i = none n (suc i)
 
 pub keys_none : keys_of 0 ≡ []
 unfolding keys_of
-keys_none = those-picks (λ k. eqb (bit 0 k) 1) ∙ none 16 0
+keys_none = those_picks (λ k. eqb (bit 0 k) 1) ∙ none 16 0
 
 step : (n i m : ℕ) → m < 2 ^ n → (m ≡ 0 → ⊥)
     → picks n i (λ k. eqb (bit m k) 1) ≡ (i + count_trailing_zeros n m) ∷ picks n i (λ k. eqb (bit (m - 2 ^ count_trailing_zeros n m) k) 1)
@@ -108,30 +108,30 @@ pub keys-next : (m : ℕ) → m < 2 ^ 16 → (m ≡ 0 → ⊥) → keys_of m ≡
 unfolding keys_of
 keys-next m l n =
     let at : 0 + count_trailing_zeros 16 m ≡ count_trailing_zeros 16 m = omega arith in
-    those-picks (λ k. eqb (bit m k) 1) ∙ step 16 0 m l n ∙ rw at (ap (λ (x : List ℕ). count_trailing_zeros 16 m ∷ x) (sym (those-picks (λ k. eqb (bit (rest_of m) k) 1))))
+    those_picks (λ k. eqb (bit m k) 1) ∙ step 16 0 m l n ∙ rw at (ap (λ (x : List ℕ). count_trailing_zeros 16 m ∷ x) (sym (those_picks (λ k. eqb (bit (rest_of m) k) 1))))
 
 -- ---- a walk by `lowest` and `rest`, from outside the crate
 
-pub first-at : (m k : ℕ) → m < 2 ^ 16 → firstKey (keys_of m) ≡ At k → (m ≡ 0 → ⊥) × (k ≡ count_trailing_zeros 16 m)
+pub first-at : (m k : ℕ) → m < 2 ^ 16 → first_key (keys_of m) ≡ At k → (m ≡ 0 → ⊥) × (k ≡ count_trailing_zeros 16 m)
 first-at m k l e = (full, same)
   where
     full : m ≡ 0 → ⊥
     full z = let q : At k ≡ Nothing = sym e ∙ rw (z, keys_none) in let o : ◌≡◌ {A = ℕ} 0 1 = cc in omega arith
 
     same : k ≡ count_trailing_zeros 16 m
-    same = let q : firstKey (keys_of m) ≡ At (count_trailing_zeros 16 m) = rw (keys-next m l full) in cc
+    same = let q : first_key (keys_of m) ≡ At (count_trailing_zeros 16 m) = rw (keys-next m l full) in cc
 
-pub first-nothing : (m : ℕ) → m < 2 ^ 16 → firstKey (keys_of m) ≡ Nothing → m ≡ 0
+pub first-nothing : (m : ℕ) → m < 2 ^ 16 → first_key (keys_of m) ≡ Nothing → m ≡ 0
 first-nothing m l e = go (eqb m 0) refl
   where
     go : (t : Bool) → eqb m 0 ≡ t → m ≡ 0
     go true q = eqb-true m 0 q
     go false q =
-        let f : firstKey (keys_of m) ≡ At (count_trailing_zeros 16 m) = rw (keys-next m l (eqb-false m 0 q)) in
+        let f : first_key (keys_of m) ≡ At (count_trailing_zeros 16 m) = rw (keys-next m l (eqb-false m 0 q)) in
         let o : ◌≡◌ {A = ℕ} 0 1 = cc in
         absurd (omega arith)
 
-pub keys-rest : (m k r : ℕ) → m < 2 ^ 16 → firstKey (keys_of m) ≡ At k → Rest m r → keys_of m ≡ k ∷ keys_of r
+pub keys-rest : (m k r : ℕ) → m < 2 ^ 16 → first_key (keys_of m) ≡ At k → Rest m r → keys_of m ≡ k ∷ keys_of r
 keys-rest m k r l e q = let f = first-at m k l e in keys-next m l f.0 ∙ rw (f.1, q.is)
 
 -- ---- how many there are
@@ -149,7 +149,7 @@ count (suc n) i m l = go (m % 2) refl (count n (suc i) (m / 2) (omega (arith, po
 
 pub count-keys : (m : ℕ) → m < 2 ^ 16 → ones m ≡ length (keys_of m)
 unfolding keys_of
-count-keys m l = sym (ap length (those-picks (λ k. eqb (bit m k) 1)) ∙ count 16 0 m l)
+count-keys m l = sym (ap length (those_picks (λ k. eqb (bit m k) 1)) ∙ count 16 0 m l)
 
 pub keys-le : (m : ℕ) → m < 2 ^ 16 → length (keys_of m) ≤ 16
 keys-le m l = omega (arith, count-keys m l, ones-le 16 m l)
@@ -167,6 +167,6 @@ each-present f z h [] s = refl
 each-present {B} f z h (k ∷ ks) s = go (s k) refl (each-present f z h ks s)
   where
     go : (x : Slot) → s k ≡ x → each f z ks s ≡ each f z (present ks s) s
-        → f k x (each f z ks s) ≡ each f z (cond (not (isAbsent x)) (k ∷ present ks s) (present ks s)) s
+        → f k x (each f z ks s) ≡ each f z (cond (not (is_absent x)) (k ∷ present ks s) (present ks s)) s
     go absent e ih = h k (each f z ks s) ∙ ih
     go (is v) e ih = ap (f k (is v)) ih ∙ ap (λ (x : Slot). f k x (each f z (present ks s) s)) (sym e)

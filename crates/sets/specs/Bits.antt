@@ -15,9 +15,9 @@ unfoldable pub keys_of : ℕ → List ℕ
 keys_of m = those (λ k. eqb (bit m k) 1) keys
 
 -- The first of them, if there is one.
-abbrev pub firstKey : List ℕ → Key
-firstKey [] = Nothing
-firstKey (k ∷ ks) = At k
+abbrev pub first_key : List ℕ → Key
+first_key [] = Nothing
+first_key (k ∷ ks) = At k
 
 -- A mask without its lowest key; 0 has none.
 abbrev pub rest_of : ℕ → ℕ

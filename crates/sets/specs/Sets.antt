@@ -27,14 +27,14 @@ keys = 0 ∷ 1 ∷ 2 ∷ 3 ∷ 4 ∷ 5 ∷ 6 ∷ 7 ∷ 8 ∷ 9 ∷ 10 ∷ 11 ∷
 abbrev pub at {ℓ} : {A : Type ℓ} → ℕ → A → (ℕ → A) → ℕ → A
 at k x f j = cond (eqb j k) x (f j)
 
-abbrev pub isAbsent : Slot → Bool
-isAbsent absent = true
-isAbsent (is v) = false
+abbrev pub is_absent : Slot → Bool
+is_absent absent = true
+is_absent (is v) = false
 
 -- Is the set without keys?
 abbrev pub bare : List ℕ → Set → Bool
 bare [] a = true
-bare (k ∷ ks) a = isAbsent (a k) && bare ks a
+bare (k ∷ ks) a = is_absent (a k) && bare ks a
 
 -- Is nothing in force?
 abbrev pub is_none : List ℕ → Env → Bool
@@ -42,9 +42,9 @@ is_none [] e = true
 is_none (k ∷ ks) e = eqb (e k) 0 && is_none ks e
 
 -- Is the same in force?
-abbrev pub sameForce : List ℕ → Env → Env → Bool
-sameForce [] e f = true
-sameForce (k ∷ ks) e f = eqb (e k) (f k) && sameForce ks e f
+abbrev pub same_force : List ℕ → Env → Env → Bool
+same_force [] e f = true
+same_force (k ∷ ks) e f = eqb (e k) (f k) && same_force ks e f
 
 -- What a slot makes of the value in force: it overrides, and null removes.
 abbrev pub lay : Slot → ℕ → ℕ
@@ -52,16 +52,16 @@ lay absent v = v
 lay (is w) v = w
 
 -- The values in force, as a set without nulls.
-abbrev pub nonNull : ℕ → Slot
-nonNull v = cond (eqb v 0) absent (is v)
+abbrev pub non_null : ℕ → Slot
+non_null v = cond (eqb v 0) absent (is v)
 
-abbrev pub asSet : Env → Set
-asSet e k = nonNull (e k)
+abbrev pub as_set : Env → Set
+as_set e k = non_null (e k)
 
 -- Does the slot hold just this value?
-abbrev pub slotIs : Slot → ℕ → Bool
-slotIs absent v = false
-slotIs (is w) v = eqb w v
+abbrev pub slot_is : Slot → ℕ → Bool
+slot_is absent v = false
+slot_is (is w) v = eqb w v
 
 -- Is the slot there, with another value than the one in force?
 abbrev pub differs : Slot → ℕ → Bool
@@ -77,27 +77,27 @@ abbrev pub former : Set → Env → Set
 former a e k = cond (differs (a k) (e k)) (is (e k)) absent
 
 -- Rule "text or embed with A": a null for each key that is in force and that the set lacks.
-abbrev pub nullFor : Slot → ℕ → Slot
-nullFor absent v = cond (eqb v 0) absent (is 0)
-nullFor (is w) v = is w
+abbrev pub null_for : Slot → ℕ → Slot
+null_for absent v = cond (eqb v 0) absent (is 0)
+null_for (is w) v = is w
 
 abbrev pub completed : Set → Env → Set
-completed a e k = nullFor (a k) (e k)
+completed a e k = null_for (a k) (e k)
 
 -- A set has keys up to 15 only.
 abbrev pub within : Set → Set
 within s k = cond (ltb k 16) (s k) absent
 
 -- Do two sets say the same?
-abbrev pub sameSlot : Slot → Slot → Bool
-sameSlot absent absent = true
-sameSlot absent (is w) = false
-sameSlot (is v) absent = false
-sameSlot (is v) (is w) = eqb v w
+abbrev pub same_slot : Slot → Slot → Bool
+same_slot absent absent = true
+same_slot absent (is w) = false
+same_slot (is v) absent = false
+same_slot (is v) (is w) = eqb v w
 
-abbrev pub sameSets : List ℕ → Set → Set → Bool
-sameSets [] a b = true
-sameSets (k ∷ ks) a b = sameSlot (a k) (b k) && sameSets ks a b
+abbrev pub same_sets : List ℕ → Set → Set → Bool
+same_sets [] a b = true
+same_sets (k ∷ ks) a b = same_slot (a k) (b k) && same_sets ks a b
 
 -- The keys of a list that pass a test, in the list's order ..
 abbrev pub those : (ℕ → Bool) → List ℕ → List ℕ
@@ -106,4 +106,4 @@ those p (k ∷ ks) = cond (p k) (k ∷ those p ks) (those p ks)
 
 -- .. and those that a set has.
 abbrev pub present : List ℕ → Set → List ℕ
-present ks s = those (λ k. not (isAbsent (s k))) ks
+present ks s = those (λ k. not (is_absent (s k))) ks

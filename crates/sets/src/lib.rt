@@ -1,6 +1,6 @@
 // Sets of keys as bits of a mask, and the walk over them.
 ghost use Rattle.std.specs.Prelude.{◌≡◌, ◌<◌, ◌^◌};
-ghost use Rattle.sets.specs.Bits.{keys_of, firstKey, Rest, BitIs, BitSet};
+ghost use Rattle.sets.specs.Bits.{keys_of, first_key, Rest, BitIs, BitSet};
 
 #[derive(Drop)]
 pub enum Key {
@@ -36,7 +36,7 @@ pub fn set_bit(mask: u16, key: u32) -> u16
 
 // The lowest key of a mask: with `rest`, the step of every walk over the keys of a set.
 pub fn lowest(mask: u16) -> Key
-    ensures { result ≡ firstKey (keys_of mask) }
+    ensures { result ≡ first_key (keys_of mask) }
 {
     if mask == 0 {
         Key::Nothing

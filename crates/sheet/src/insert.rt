@@ -1,10 +1,10 @@
 // Text and embeds, at an index.
 ghost use Rattle.std.specs.Prelude.{◌≡◌, ◌+◌};
 ghost use Rattle.attrs.specs.Packed.{says};
-ghost use Rattle.rules.specs.Calls.{insertText, insertTextWith, insertEmbed, insertEmbedWith};
+ghost use Rattle.rules.specs.Calls.{insert_text, insert_text_with, insert_embed, insert_embed_with};
 ghost use Rattle.layout.specs.Memory.{carry};
 ghost use Rattle.changes.specs.Frame.{leaving};
-ghost use Rattle.sheet.specs.Inserts.{textCall, embedCall, textChange, embedChange};
+ghost use Rattle.sheet.specs.Inserts.{text_call, embed_call, text_change, embed_change};
 
 use crate::append::append_accepted;
 use attrs::Attrs;
@@ -17,7 +17,7 @@ use refusals::{embed_fault, text_fault};
 use soundness::sound;
 
 fn text_change(plain: bool, start: u32, len: u32) -> Change
-    ensures { result ≡ textChange plain start len }
+    ensures { result ≡ text_change plain start len }
 {
     if plain {
         return Change::PlainText { start, len };
@@ -26,7 +26,7 @@ fn text_change(plain: bool, start: u32, len: u32) -> Change
 }
 
 fn embed_change(plain: bool, number: u32) -> Change
-    ensures { result ≡ embedChange plain number }
+    ensures { result ≡ embed_change plain number }
 {
     if plain {
         return Change::PlainEmbed(number);
@@ -43,7 +43,7 @@ fn put_text(
     plain: bool,
     attrs: Attrs,
 ) -> Answer
-    ensures { leaving result items.new units.new ≡ carry (textCall plain index chunk.now (says attrs)) h items.old units.old }
+    ensures { leaving result items.new units.new ≡ carry (text_call plain index chunk.now (says attrs)) h items.old units.old }
 {
     if !sound(h, items, units) {
         return Answer {
@@ -87,7 +87,7 @@ fn put_embed(
     plain: bool,
     attrs: Attrs,
 ) -> Answer
-    ensures { leaving result items.new units.now ≡ carry (embedCall plain index number (says attrs)) h items.old units.now }
+    ensures { leaving result items.new units.now ≡ carry (embed_call plain index number (says attrs)) h items.old units.now }
 {
     if !sound(h, items, units) {
         return Answer {
@@ -108,7 +108,7 @@ fn put_embed(
 
 // Plain text: it takes what is in force at its place.
 pub fn insert(h: Head, items: &mut [u64], units: &mut [u16], index: u32, chunk: &[u16]) -> Answer
-    ensures { leaving result items.new units.new ≡ carry (insertText index chunk.now) h items.old units.old }
+    ensures { leaving result items.new units.new ≡ carry (insert_text index chunk.now) h items.old units.old }
 {
     let none = Attrs::empty();
     put_text(h, items, units, index, chunk, true, none)
@@ -122,14 +122,14 @@ pub fn insert_with_attributes(
     chunk: &[u16],
     attrs: Attrs,
 ) -> Answer
-    ensures { leaving result items.new units.new ≡ carry (insertTextWith index chunk.now (says attrs)) h items.old units.old }
+    ensures { leaving result items.new units.new ≡ carry (insert_text_with index chunk.now (says attrs)) h items.old units.old }
 {
     put_text(h, items, units, index, chunk, false, attrs)
 }
 
 // A plain embed goes right to its place.
 pub fn insert_embed(h: Head, items: &mut [u64], units: &[u16], index: u32, number: u32) -> Answer
-    ensures { leaving result items.new units.now ≡ carry (insertEmbed index number) h items.old units.now }
+    ensures { leaving result items.new units.now ≡ carry (insert_embed index number) h items.old units.now }
 {
     let none = Attrs::empty();
     put_embed(h, items, units, index, number, true, none)
@@ -143,7 +143,7 @@ pub fn insert_embed_with_attributes(
     number: u32,
     attrs: Attrs,
 ) -> Answer
-    ensures { leaving result items.new units.now ≡ carry (insertEmbedWith index number (says attrs)) h items.old units.now }
+    ensures { leaving result items.new units.now ≡ carry (insert_embed_with index number (says attrs)) h items.old units.now }
 {
     put_embed(h, items, units, index, number, false, attrs)
 }

@@ -1,7 +1,7 @@
 // A range formatted or removed.
 ghost use Rattle.std.specs.Prelude.{◌≡◌};
 ghost use Rattle.attrs.specs.Packed.{says};
-ghost use Rattle.rules.specs.Calls.{formatRange, removeRange};
+ghost use Rattle.rules.specs.Calls.{format_range, remove_range};
 ghost use Rattle.layout.specs.Memory.{carry};
 ghost use Rattle.changes.specs.Frame.{leaving};
 
@@ -22,7 +22,7 @@ pub fn format(
     len: u32,
     attrs: Attrs,
 ) -> Answer
-    ensures { leaving result items.new units.now ≡ carry (formatRange index len (says attrs)) h items.old units.now }
+    ensures { leaving result items.new units.now ≡ carry (format_range index len (says attrs)) h items.old units.now }
 {
     if !sound(h, items, units) {
         return Answer {
@@ -42,7 +42,7 @@ pub fn format(
 
 // All of the range or nothing: where fewer units stand right of the index, none is deleted.
 pub fn remove_range(h: Head, items: &mut [u64], units: &[u16], index: u32, len: u32) -> Answer
-    ensures { leaving result items.new units.now ≡ carry (removeRange index len) h items.old units.now }
+    ensures { leaving result items.new units.now ≡ carry (remove_range index len) h items.old units.now }
 {
     let m = measure(h, items, units);
     if !m.sound {

@@ -3,7 +3,7 @@ use Rattle.std.specs.Prelude.{ℕ, ◌≤◌, ◌≡◌, Bool, true, false, cond
 use Rattle.units.specs.Surrogates.{halves}
 use Rattle.rules.specs.Reading.{visible}
 use Rattle.layout.specs.declared.head.Head.{Head}
-use Rattle.layout.specs.Memory.{list_of, soundOf}
+use Rattle.layout.specs.Memory.{list_of, sound_of}
 use Rattle.soundness.specs.declared.Measured.{Measured}
 
 -- The buffers have their full size, and the counts keep the limits.
@@ -21,5 +21,5 @@ abbrev pub broken : Measured
 broken = record { sound = false; len = 0 }
 
 -- Soundness, and the visible length beside it; 0 where the sheet is not sound.
-unfoldable pub measureOf : Head → List ℕ → List ℕ → Measured
-measureOf h m u = cond (soundOf h m u) (record { sound = true; len = visible (list_of h m) }) broken
+unfoldable pub measure_of : Head → List ℕ → List ℕ → Measured
+measure_of h m u = cond (sound_of h m u) (record { sound = true; len = visible (list_of h m) }) broken

@@ -1,15 +1,15 @@
 // Whether a lent sheet is sound, and how long it is.
 ghost use Rattle.std.specs.Prelude.{◌≡◌, ◌<◌, ◌≤◌, length};
 ghost use Rattle.rules.specs.Sheet.{text};
-ghost use Rattle.layout.specs.Word.{whatOf, contentFrom, shownLen};
-ghost use Rattle.soundness.specs.Walk.{Sized, Plain, broken, measureOf};
-ghost use Rattle.layout.specs.Memory.{flagsOk, len_of, whatOk, wordOk, soundOf};
+ghost use Rattle.layout.specs.Word.{what_of, content_from, shown_len};
+ghost use Rattle.soundness.specs.Walk.{Sized, Plain, broken, measure_of};
+ghost use Rattle.layout.specs.Memory.{flags_ok, len_of, what_ok, word_ok, sound_of};
 
 use layout::head::Head;
 use layout::word::{added_of, dead_of, gone_of, in_range, kind_of, next_of, payload_of};
 
 fn flags_ok(dead: bool, added: bool, gone: bool) -> bool
-    ensures { result ≡ flagsOk dead added gone }
+    ensures { result ≡ flags_ok dead added gone }
 {
     if dead {
         return gone || !added;
@@ -21,7 +21,7 @@ fn flags_ok(dead: bool, added: bool, gone: bool) -> bool
 fn piece_ok(start: u32, len: u32, units: &[u16], used: u32, plain: bool) -> bool
     requires used_in_bounds { used ≤ length units.now }
     requires plain { Plain plain used units.now }
-    ensures { result ≡ whatOk units.now used (text start len) }
+    ensures { result ≡ what_ok units.now used (text start len) }
 {
     if len == 0 {
         return false;
@@ -42,7 +42,7 @@ fn content_ok(kind: u64, payload: u64, units: &[u16], used: u32, plain: bool) ->
     requires used_in_bounds { used ≤ length units.now }
     requires plain { Plain plain used units.now }
     requires payload_bound { payload < 4294967296 }
-    ensures { result ≡ whatOk units.now used (whatOf (contentFrom kind payload)) }
+    ensures { result ≡ what_ok units.now used (what_of (content_from kind payload)) }
 {
     if kind == 0 {
         let start = (payload % 16384) as u32;
@@ -58,7 +58,7 @@ fn content_ok(kind: u64, payload: u64, units: &[u16], used: u32, plain: bool) ->
 fn word_ok(w: u64, units: &[u16], used: u32, plain: bool) -> bool
     requires used_in_bounds { used ≤ length units.now }
     requires plain { Plain plain used units.now }
-    ensures { result ≡ wordOk units.now used w }
+    ensures { result ≡ word_ok units.now used w }
 {
     if !in_range(w) {
         return false;
@@ -71,7 +71,7 @@ fn word_ok(w: u64, units: &[u16], used: u32, plain: bool) -> bool
 
 fn text_len(kind: u64, payload: u64) -> u32
     requires { payload < 4294967296 }
-    ensures { result ≡ len_of (whatOf (contentFrom kind payload)) }
+    ensures { result ≡ len_of (what_of (content_from kind payload)) }
 {
     if kind == 0 {
         return (payload / 16384) as u32;
@@ -82,7 +82,7 @@ fn text_len(kind: u64, payload: u64) -> u32
 // What is added to the visible length.
 fn shown_len(dead: bool, kind: u64, payload: u64) -> u32
     requires { payload < 4294967296 }
-    ensures { result ≡ shownLen dead (whatOf (contentFrom kind payload)) }
+    ensures { result ≡ shown_len dead (what_of (content_from kind payload)) }
 {
     if dead {
         return 0;
@@ -116,7 +116,7 @@ impl Measured {
 fn walk(h: Head, items: &[u64], units: &[u16], plain: bool) -> Measured
     requires sized { Sized h items.now units.now }
     requires plain { Plain plain h.units units.now }
-    ensures { result ≡ measureOf h items.now units.now }
+    ensures { result ≡ measure_of h items.now units.now }
 {
     let n = h.items;
     let used = h.units;
@@ -153,7 +153,7 @@ fn walk(h: Head, items: &[u64], units: &[u16], plain: bool) -> Measured
 }
 
 pub fn measure(h: Head, items: &[u64], units: &[u16]) -> Measured
-    ensures { result ≡ measureOf h items.now units.now }
+    ensures { result ≡ measure_of h items.now units.now }
 {
     if items.len() != 2048 {
         return Measured::broken();
@@ -173,7 +173,7 @@ pub fn measure(h: Head, items: &[u64], units: &[u16]) -> Measured
 }
 
 pub fn sound(h: Head, items: &[u64], units: &[u16]) -> bool
-    ensures { result ≡ soundOf h items.now units.now }
+    ensures { result ≡ sound_of h items.now units.now }
 {
     measure(h, items, units).sound
 }

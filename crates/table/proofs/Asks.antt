@@ -12,55 +12,55 @@ use Rattle.table.specs.declared.Shelf.{Shelf}
 use Rattle.table.specs.declared.Asking.{Asking}
 use Rattle.table.specs.declared.Asking.TheVariants.{Refused, Known, Fresh}
 use Rattle.entries.specs.Entry.{entries, seek}
-use Rattle.table.specs.Sound.{soundOf}
-use Rattle.table.specs.Ask.{shelfOf, tooLong, askingOf, outcome, askOf}
+use Rattle.table.specs.Sound.{sound_of}
+use Rattle.table.specs.Ask.{shelf_of, too_long, asking_of, outcome, ask_of}
 use Rattle.entries.proofs.Entries.{length-entries}
 use Rattle.entries.proofs.Seeks.{seek-le}
 
 module _ (most : ℕ) (m : List ℕ) (s n k : ℕ) (c : List ℕ) where
-  pub is-long : tooLong k (length c) ≡ true → askingOf most (entries m s n) k c ≡ Refused 6
-  unfolding askingOf
+  pub is-long : too_long k (length c) ≡ true → asking_of most (entries m s n) k c ≡ Refused 6
+  unfolding asking_of
   is-long t = rw t
 
-  module _ (t : tooLong k (length c) ≡ false) (i : ℕ) (e : i ≡ seek (k ∷ c) (entries m s n)) where
-    pub is_known : i < n → askingOf most (entries m s n) k c ≡ Known i
-    unfolding askingOf
+  module _ (t : too_long k (length c) ≡ false) (i : ℕ) (e : i ≡ seek (k ∷ c) (entries m s n)) where
+    pub is_known : i < n → asking_of most (entries m s n) k c ≡ Known i
+    unfolding asking_of
     is_known l = rw (t, ← e, length-entries, lt-ltb i n l)
 
-    pub is-fresh : n ≤ i → n < most → askingOf most (entries m s n) k c ≡ Fresh
-    unfolding askingOf
+    pub is-fresh : n ≤ i → n < most → asking_of most (entries m s n) k c ≡ Fresh
+    unfolding asking_of
     is-fresh l f = rw (t, ← e, length-entries, le-ltb i n l, lt-ltb n most f)
 
-    pub is-full : n ≤ i → most ≤ n → askingOf most (entries m s n) k c ≡ Refused 5
-    unfolding askingOf
+    pub is-full : n ≤ i → most ≤ n → asking_of most (entries m s n) k c ≡ Refused 5
+    unfolding asking_of
     is-full l f = rw (t, ← e, length-entries, le-ltb i n l, le-ltb n most f)
 
 -- what each case says of what was asked
 pub record New (most : ℕ) (m : List ℕ) (s n k : ℕ) (c : List ℕ) : Type 0 where
-  pub fine : tooLong k (length c) ≡ false
+  pub fine : too_long k (length c) ≡ false
   pub short : length c ≤ 32
   pub new : seek (k ∷ c) (entries m s n) ≡ n
   pub left : n < most
 
 pub record There (m : List ℕ) (s n k : ℕ) (c : List ℕ) (i : ℕ) : Type 0 where
-  pub fine : tooLong k (length c) ≡ false
+  pub fine : too_long k (length c) ≡ false
   pub below : i < n
   pub there : seek (k ∷ c) (entries m s n) ≡ i
 
-pub fine-short : (k n : ℕ) → tooLong k n ≡ false → n ≤ 32
-unfolding tooLong
-fine-short k n e = go (ltb 32 n) refl e
+pub fine_short : (k n : ℕ) → too_long k n ≡ false → n ≤ 32
+unfolding too_long
+fine_short k n e = go (ltb 32 n) refl e
   where
     go : (t : Bool) → ltb 32 n ≡ t → cond t true (cond (eqb k 0) (eqb n 0) false) ≡ false → n ≤ 32
     go true f p = absurd (let z : ◌≡◌ {A = ℕ} 0 1 = cc in omega arith)
     go false f p = ltb-false 32 n f
 
 module _ (most : ℕ) (m : List ℕ) (s n k : ℕ) (c : List ℕ) where
-  pub known_facts : (a : Asking) → a ≡ askingOf most (entries m s n) k c → (i : ℕ) → a ≡ Known i → There m s n k c i
-  unfolding askingOf
-  known_facts a e i p = go (tooLong k (length c)) refl (ltb (seek (k ∷ c) (entries m s n)) (length (entries m s n))) refl (ltb (length (entries m s n)) most) (sym e ∙ p)
+  pub known_facts : (a : Asking) → a ≡ asking_of most (entries m s n) k c → (i : ℕ) → a ≡ Known i → There m s n k c i
+  unfolding asking_of
+  known_facts a e i p = go (too_long k (length c)) refl (ltb (seek (k ∷ c) (entries m s n)) (length (entries m s n))) refl (ltb (length (entries m s n)) most) (sym e ∙ p)
     where
-      go : (t : Bool) → tooLong k (length c) ≡ t → (u : Bool) → ltb (seek (k ∷ c) (entries m s n)) (length (entries m s n)) ≡ u → (v : Bool)
+      go : (t : Bool) → too_long k (length c) ≡ t → (u : Bool) → ltb (seek (k ∷ c) (entries m s n)) (length (entries m s n)) ≡ u → (v : Bool)
           → cond t (Refused 6) (cond u (Known (seek (k ∷ c) (entries m s n))) (cond v Fresh (Refused 5))) ≡ Known i → There m s n k c i
       go true g u f v q = absurd (let z : ◌≡◌ {A = ℕ} 0 1 = cc in omega arith)
       go false g true f v q =
@@ -73,10 +73,10 @@ module _ (most : ℕ) (m : List ℕ) (s n k : ℕ) (c : List ℕ) where
       go false g false f true q = absurd (let z : ◌≡◌ {A = ℕ} 0 1 = cc in omega arith)
       go false g false f false q = absurd (let z : ◌≡◌ {A = ℕ} 0 1 = cc in omega arith)
 
-  pub refused-number : (a : Asking) → a ≡ askingOf most (entries m s n) k c → (r : ℕ) → a ≡ Refused r → 0 < r
-  unfolding askingOf
+  pub refused-number : (a : Asking) → a ≡ asking_of most (entries m s n) k c → (r : ℕ) → a ≡ Refused r → 0 < r
+  unfolding asking_of
   refused-number a e r p =
-      go (tooLong k (length c)) (ltb (seek (k ∷ c) (entries m s n)) (length (entries m s n))) (ltb (length (entries m s n)) most) (sym e ∙ p)
+      go (too_long k (length c)) (ltb (seek (k ∷ c) (entries m s n)) (length (entries m s n))) (ltb (length (entries m s n)) most) (sym e ∙ p)
     where
       go : (t u v : Bool) → cond t (Refused 6) (cond u (Known (seek (k ∷ c) (entries m s n))) (cond v Fresh (Refused 5))) ≡ Refused r → 0 < r
       go true u v q = let is : ◌≡◌ {A = ℕ} 6 r = cc in omega arith
@@ -85,13 +85,13 @@ module _ (most : ℕ) (m : List ℕ) (s n k : ℕ) (c : List ℕ) where
       go false false false q = let is : ◌≡◌ {A = ℕ} 5 r = cc in omega arith
 
   -- a new entry: not too long, not there yet, and a number is left
-  pub fresh-facts : (a : Asking) → a ≡ askingOf most (entries m s n) k c → a ≡ Fresh → New most m s n k c
-  unfolding askingOf
+  pub fresh-facts : (a : Asking) → a ≡ asking_of most (entries m s n) k c → a ≡ Fresh → New most m s n k c
+  unfolding asking_of
   fresh-facts a e p =
-      go (tooLong k (length c)) refl (ltb (seek (k ∷ c) (entries m s n)) (length (entries m s n))) refl
+      go (too_long k (length c)) refl (ltb (seek (k ∷ c) (entries m s n)) (length (entries m s n))) refl
       (ltb (length (entries m s n)) most) refl (sym e ∙ p)
     where
-      go : (t : Bool) → tooLong k (length c) ≡ t → (u : Bool) → ltb (seek (k ∷ c) (entries m s n)) (length (entries m s n)) ≡ u
+      go : (t : Bool) → too_long k (length c) ≡ t → (u : Bool) → ltb (seek (k ∷ c) (entries m s n)) (length (entries m s n)) ≡ u
           → (v : Bool) → ltb (length (entries m s n)) most ≡ v
           → cond t (Refused 6) (cond u (Known (seek (k ∷ c) (entries m s n))) (cond v Fresh (Refused 5))) ≡ Fresh
           → New most m s n k c
@@ -102,13 +102,13 @@ module _ (most : ℕ) (m : List ℕ) (s n k : ℕ) (c : List ℕ) where
           let few = ltb-true (length (entries m s n)) most g in
           record {
             fine = f;
-            short = fine-short k (length c) f;
+            short = fine_short k (length c) f;
             new = omega (arith, seek-le (k ∷ c) (entries m s n), length-entries m s n);
             left = omega (arith, length-entries m s n);
           }
       go false f false w false g q = absurd (let z : ◌≡◌ {A = ℕ} 0 1 = cc in omega arith)
 
-pub ask-case : (h : TableHead) (m : List ℕ) (k : ℕ) (c : List ℕ) → soundOf h m ≡ true → (s : Shelf) → s ≡ shelfOf h k
-    → (a : Asking) → a ≡ askingOf s.most (entries m s.from s.count) k c → askOf h m k c ≡ outcome h s m k c a
-unfolding askOf
-ask-case h m k c p s e a f = rw (p, f, e)
+pub ask_case : (h : TableHead) (m : List ℕ) (k : ℕ) (c : List ℕ) → sound_of h m ≡ true → (s : Shelf) → s ≡ shelf_of h k
+    → (a : Asking) → a ≡ asking_of s.most (entries m s.from s.count) k c → ask_of h m k c ≡ outcome h s m k c a
+unfolding ask_of
+ask_case h m k c p s e a f = rw (p, f, e)

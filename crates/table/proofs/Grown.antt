@@ -9,43 +9,43 @@ use lib.ListN.{length, get_or}
 use lib.Dec.{eqb, ltb, leb}
 use borrow.Author.Tests.{eqb-true, le-leb}
 use Rattle.entries.specs.Entry.{entries, put_at}
-use Rattle.entries.specs.Order.{fits, fitsAt}
-use Rattle.table.specs.Value.{Value, bool, int, string, kind_of, contentOf}
-use Rattle.table.specs.Ask.{tooLong}
+use Rattle.entries.specs.Order.{fits, fits_at}
+use Rattle.table.specs.Value.{Value, bool, int, string, kind_of, content_of}
+use Rattle.table.specs.Ask.{too_long}
 use Rattle.entries.proofs.Entries.{length-entries}
 use Rattle.entries.proofs.Seeks.{distinct_more}
 use Rattle.entries.proofs.Puts.{put-size, put-kind, put_first, put-entry, put_entries, put_fit, entries-more, fit-more}
 use Rattle.entries.proofs.Bits.{length-low}
 use Rattle.table.proofs.Tables.{Shelved}
-use Rattle.table.proofs.Asks.{New, fine-short}
+use Rattle.table.proofs.Asks.{New, fine_short}
 
 -- ---- what is asked for, if it is not too long, is in order
 unfoldable pub Shape : ℕ → List ℕ → Type 0
-Shape k c = (b : ℕ) → (0 < length c → b ≡ get_or c 0 0) → tooLong k (length c) ≡ false → fits k (length c) b ≡ true
+Shape k c = (b : ℕ) → (0 < length c → b ≡ get_or c 0 0) → too_long k (length c) ≡ false → fits k (length c) b ≡ true
 
-pub name-shape : (c : List ℕ) → Shape 0 c
-unfolding Shape fits tooLong
-name-shape c b e f = go (eqb (length c) 0) refl (fine-short 0 (length c) f)
+pub name_shape : (c : List ℕ) → Shape 0 c
+unfolding Shape fits too_long
+name_shape c b e f = go (eqb (length c) 0) refl (fine_short 0 (length c) f)
   where
     go : (t : Bool) → eqb (length c) 0 ≡ t → length c ≤ 32 → cond t false (leb (length c) 32) ≡ true
     go true g h =
         let none : length c ≡ 0 = eqb-true (length c) 0 g in
-        let wrong : tooLong 0 0 ≡ false = rw none at f in
+        let wrong : too_long 0 0 ≡ false = rw none at f in
         absurd (let z : ◌≡◌ {A = ℕ} 0 1 = cc in omega arith)
     go false g h = le-leb (length c) 32 h
 
-pub value-shape : (v : Value) → Shape (kind_of v) (contentOf v)
-unfolding Shape fits kind_of contentOf
-value-shape (bool true) b e f = rw (e (omega arith))
-value-shape (bool false) b e f = rw (e (omega arith))
-value-shape (int z) b e f = rw (length-low 8)
-value-shape (string c) b e f = le-leb (length c) 32 (fine-short 3 (length c) f)
+pub value_shape : (v : Value) → Shape (kind_of v) (content_of v)
+unfolding Shape fits kind_of content_of
+value_shape (bool true) b e f = rw (e (omega arith))
+value_shape (bool false) b e f = rw (e (omega arith))
+value_shape (int z) b e f = rw (length-low 8)
+value_shape (string c) b e f = le-leb (length c) 32 (fine_short 3 (length c) f)
 
-module _ (m : List ℕ) (k : ℕ) (c : List ℕ) (full : length m ≡ 9214) (fine : tooLong k (length c) ≡ false) (shape : Shape k c) where
-  new-fits : (t : ℕ) → t < 271 → ltb t 16 ≡ eqb k 0 → fitsAt (put_at m t k c) t ≡ true
-  unfolding fitsAt Shape
+module _ (m : List ℕ) (k : ℕ) (c : List ℕ) (full : length m ≡ 9214) (fine : too_long k (length c) ≡ false) (shape : Shape k c) where
+  new-fits : (t : ℕ) → t < 271 → ltb t 16 ≡ eqb k 0 → fits_at (put_at m t k c) t ≡ true
+  unfolding fits_at Shape
   new-fits t h side =
-      let short = fine-short k (length c) fine in
+      let short = fine_short k (length c) fine in
       let fit = shape (get_or (put_at m t k c) (t * 34 + 2) 0) (put_first m t k c full h short) fine in
       rw (put-kind m t k c full h short, put-size m t k c full h short, side, fit) (go (eqb k 0))
     where
@@ -69,7 +69,7 @@ module _ (m : List ℕ) (k : ℕ) (c : List ℕ) (full : length m ≡ 9214) (fin
 
   pub shelf-stays : (t s n most : ℕ) → t < 271 → (t < s) ⊎ (s + n ≤ t) → Shelved m s n most → Shelved (put_at m t k c) s n most
   shelf-stays t s n most t-in away p =
-      let short = fine-short k (length c) fine in
+      let short = fine_short k (length c) fine in
       record {
         few = p.few;
         fit = put_fit m t k c full t-in short s n away ∙ p.fit;

@@ -14,45 +14,45 @@ use Rattle.table.specs.declared.TableHead.{TableHead}
 use Rattle.table.specs.declared.Shelf.{Shelf}
 use Rattle.table.specs.declared.Asking.{Asking}
 use Rattle.table.specs.declared.Asking.TheVariants.{Refused, Known, Fresh}
-use Rattle.table.specs.Ask.{nameShelf, valueShelf, shelfOf, oneName, oneValue, grownOf, tooLong, askingOf, Outcome, outcome, askOf}
+use Rattle.table.specs.Ask.{name_shelf, value_shelf, shelf_of, one_name, one_value, grown_of, too_long, asking_of, Outcome, outcome, ask_of}
 use Rattle.entries.proofs.Entries.{length-entries}
-use Rattle.entries.proofs.Seeks.{seek-own, seek-more}
+use Rattle.entries.proofs.Seeks.{seek_own, seek-more}
 use Rattle.entries.proofs.Puts.{put-length, put-entry, put_entries, other-entry, entries-more}
 use Rattle.table.proofs.Tables.{Shelved, Sound, sound-whole, shelf-room}
-use Rattle.table.proofs.Asks.{New, known_facts, refused-number, fresh-facts, is_known, ask-case}
+use Rattle.table.proofs.Asks.{New, known_facts, refused-number, fresh-facts, is_known, ask_case}
 use Rattle.table.proofs.Grown.{Shape, shelf-grows, shelf-stays}
 
 -- the entries of a kind, in the order of their numbers
 abbrev pub kindred : TableHead → List ℕ → ℕ → List (List ℕ)
-kindred h m k = entries m (shelfOf h k).from (shelfOf h k).count
+kindred h m k = entries m (shelf_of h k).from (shelf_of h k).count
 
 -- an accepted asking: its number is that of the first, and only, entry of the kind that equals it
 pub record Placed (h : TableHead) (k : ℕ) (c : List ℕ) (o : Outcome) : Type 0 where
-  pub fine : tooLong k (length c) ≡ false
-  pub inside : seek (k ∷ c) (kindred o.asked.head o.bytes k) < (shelfOf o.asked.head k).count
-  pub number : o.asked.number ≡ (shelfOf h k).first + seek (k ∷ c) (kindred o.asked.head o.bytes k)
+  pub fine : too_long k (length c) ≡ false
+  pub inside : seek (k ∷ c) (kindred o.asked.head o.bytes k) < (shelf_of o.asked.head k).count
+  pub number : o.asked.number ≡ (shelf_of h k).first + seek (k ∷ c) (kindred o.asked.head o.bytes k)
 
-shelf-first : (g h : TableHead) (k : ℕ) → (shelfOf g k).first ≡ (shelfOf h k).first
-unfolding shelfOf
+shelf-first : (g h : TableHead) (k : ℕ) → (shelf_of g k).first ≡ (shelf_of h k).first
+unfolding shelf_of
 shelf-first g h k = go (eqb k 0)
   where
-    go : (b : Bool) → (cond b (nameShelf g) (valueShelf g)).first ≡ (cond b (nameShelf h) (valueShelf h)).first
+    go : (b : Bool) → (cond b (name_shelf g) (value_shelf g)).first ≡ (cond b (name_shelf h) (value_shelf h)).first
     go true = refl
     go false = refl
 
-shelf-from : (g h : TableHead) (k : ℕ) → (shelfOf g k).from ≡ (shelfOf h k).from
-unfolding shelfOf
-shelf-from g h k = go (eqb k 0)
+shelf_from : (g h : TableHead) (k : ℕ) → (shelf_of g k).from ≡ (shelf_of h k).from
+unfolding shelf_of
+shelf_from g h k = go (eqb k 0)
   where
-    go : (b : Bool) → (cond b (nameShelf g) (valueShelf g)).from ≡ (cond b (nameShelf h) (valueShelf h)).from
+    go : (b : Bool) → (cond b (name_shelf g) (value_shelf g)).from ≡ (cond b (name_shelf h) (value_shelf h)).from
     go true = refl
     go false = refl
 
-shelf-count : (h : TableHead) (k : ℕ) → (shelfOf (grownOf h k) k).count ≡ (shelfOf h k).count + 1
-unfolding shelfOf grownOf
+shelf-count : (h : TableHead) (k : ℕ) → (shelf_of (grown_of h k) k).count ≡ (shelf_of h k).count + 1
+unfolding shelf_of grown_of
 shelf-count h k = go (eqb k 0)
   where
-    go : (b : Bool) → (cond b (nameShelf (cond b (oneName h) (oneValue h))) (valueShelf (cond b (oneName h) (oneValue h)))).count ≡ (cond b (nameShelf h) (valueShelf h)).count + 1
+    go : (b : Bool) → (cond b (name_shelf (cond b (one_name h) (one_value h))) (value_shelf (cond b (one_name h) (one_value h)))).count ≡ (cond b (name_shelf h) (value_shelf h)).count + 1
     go true = refl
     go false = refl
 
@@ -62,17 +62,17 @@ Used h s = (s < h.names) ⊎ ((16 ≤ s) × (s < 16 + h.values))
 
 module _ (h : TableHead) (m : List ℕ) (k : ℕ) (c : List ℕ) (shape : Shape k c) (p : Sound h m) where
   ask : Outcome
-  ask = askOf h m k c
+  ask = ask_of h m k c
 
   decided : Asking
-  decided = askingOf (shelfOf h k).most (kindred h m k) k c
+  decided = asking_of (shelf_of h k).most (kindred h m k) k c
 
-  is-outcome : ask ≡ outcome h (shelfOf h k) m k c decided
+  is-outcome : ask ≡ outcome h (shelf_of h k) m k c decided
   unfolding ask decided
-  is-outcome = ask-case h m k c (sound-whole p) (shelfOf h k) refl decided refl
+  is-outcome = ask_case h m k c (sound-whole p) (shelf_of h k) refl decided refl
 
-  grown-sound : (b : Bool) → eqb k 0 ≡ b → (s : Shelf) → s ≡ cond b (nameShelf h) (valueShelf h)
-      → (g : TableHead) → g ≡ cond b (oneName h) (oneValue h)
+  grown-sound : (b : Bool) → eqb k 0 ≡ b → (s : Shelf) → s ≡ cond b (name_shelf h) (value_shelf h)
+      → (g : TableHead) → g ≡ cond b (one_name h) (one_value h)
       → New s.most m s.from s.count k c → Sound g (put_at m (s.from + s.count) k c)
   grown-sound true e s es g eg = rw (es, eg) (λ new.
       let left = new.left in
@@ -93,53 +93,53 @@ module _ (h : TableHead) (m : List ℕ) (k : ℕ) (c : List ℕ) (shape : Shape 
         of_values = shelf-grows m k c p.full new.fine shape 16 h.values 255 (omega arith) (le-ltb (16 + h.values) 16 (omega arith) ∙ sym e) new p.of_values;
       })
 
-  away : (b : Bool) (s : ℕ) → Used h s → (t : Shelf) → t ≡ cond b (nameShelf h) (valueShelf h) → t.count < t.most
+  away : (b : Bool) (s : ℕ) → Used h s → (t : Shelf) → t ≡ cond b (name_shelf h) (value_shelf h) → t.count < t.most
       → (t.from + t.count < s) ⊎ (s < t.from + t.count)
   away true s (inl u) t e = rw e (λ left. inr (omega arith))
   away true s (inr u) t e = rw e (λ left. inl (omega arith))
   away false s (inl u) t e = let few = p.of-names.few in rw e (λ left. inr (omega arith))
   away false s (inr u) t e = rw e (λ left. inr (omega arith))
 
-  kept_fresh : (s : ℕ) → Used h s → New (shelfOf h k).most m (shelfOf h k).from (shelfOf h k).count k c
-      → entry_at (put_at m ((shelfOf h k).from + (shelfOf h k).count) k c) s ≡ entry_at m s
-  unfolding shelfOf
+  kept_fresh : (s : ℕ) → Used h s → New (shelf_of h k).most m (shelf_of h k).from (shelf_of h k).count k c
+      → entry_at (put_at m ((shelf_of h k).from + (shelf_of h k).count) k c) s ≡ entry_at m s
+  unfolding shelf_of
   kept_fresh s used new =
-      let room = shelf-room h m k p (shelfOf h k) refl in
+      let room = shelf-room h m k p (shelf_of h k) refl in
       let left = new.left in
-      other-entry m ((shelfOf h k).from + (shelfOf h k).count) k c p.full (omega arith) new.short s (away (eqb k 0) s used (shelfOf h k) refl left)
+      other-entry m ((shelf_of h k).from + (shelf_of h k).count) k c p.full (omega arith) new.short s (away (eqb k 0) s used (shelf_of h k) refl left)
 
   -- refused or not, a sound table stays sound
-  pub ask-sound : Sound (askOf h m k c).asked.head (askOf h m k c).bytes
-  unfolding ask decided outcome shelfOf grownOf
+  pub ask-sound : Sound (ask_of h m k c).asked.head (ask_of h m k c).bytes
+  unfolding ask decided outcome shelf_of grown_of
   ask-sound = rw is-outcome (go decided refl)
     where
-      go : (a : Asking) → a ≡ decided → Sound (outcome h (shelfOf h k) m k c a).asked.head (outcome h (shelfOf h k) m k c a).bytes
+      go : (a : Asking) → a ≡ decided → Sound (outcome h (shelf_of h k) m k c a).asked.head (outcome h (shelf_of h k) m k c a).bytes
       go (Refused n) e = p
       go (Known i) e = p
-      go Fresh e = grown-sound (eqb k 0) refl (shelfOf h k) refl (grownOf h k) refl (fresh-facts _ m _ _ k c Fresh e refl)
+      go Fresh e = grown-sound (eqb k 0) refl (shelf_of h k) refl (grown_of h k) refl (fresh-facts _ m _ _ k c Fresh e refl)
 
-  grown-kindred : New (shelfOf h k).most m (shelfOf h k).from (shelfOf h k).count k c
-      → kindred (grownOf h k) (put_at m ((shelfOf h k).from + (shelfOf h k).count) k c) k ≡ kindred h m k ++ (k ∷ c) ∷ []
+  grown-kindred : New (shelf_of h k).most m (shelf_of h k).from (shelf_of h k).count k c
+      → kindred (grown_of h k) (put_at m ((shelf_of h k).from + (shelf_of h k).count) k c) k ≡ kindred h m k ++ (k ∷ c) ∷ []
   grown-kindred new =
-      let room = shelf-room h m k p (shelfOf h k) refl in
-      let from = (shelfOf h k).from in
-      let count = (shelfOf h k).count in
+      let room = shelf-room h m k p (shelf_of h k) refl in
+      let from = (shelf_of h k).from in
+      let count = (shelf_of h k).count in
       let short = new.short in
       let left = new.left in
       let t-in : from + count < 271 = omega arith in
       rw (
         shelf-count h k,
-        shelf-from (grownOf h k) h k,
+        shelf_from (grown_of h k) h k,
         entries-more (put_at m (from + count) k c) from count,
         put_entries m (from + count) k c p.full t-in short from count (inr (omega arith)),
         put-entry m (from + count) k c p.full t-in short,
       )
 
-  pub ask-placed : (askOf h m k c).asked.refusal ≡ 0 → Placed h k c (askOf h m k c)
+  pub ask-placed : (ask_of h m k c).asked.refusal ≡ 0 → Placed h k c (ask_of h m k c)
   unfolding ask decided outcome
   ask-placed = rw is-outcome (go decided refl)
     where
-      go : (a : Asking) → a ≡ decided → (outcome h (shelfOf h k) m k c a).asked.refusal ≡ 0 → Placed h k c (outcome h (shelfOf h k) m k c a)
+      go : (a : Asking) → a ≡ decided → (outcome h (shelf_of h k) m k c a).asked.refusal ≡ 0 → Placed h k c (outcome h (shelf_of h k) m k c a)
       go (Refused n) e q = absurd (omega (arith, refused-number _ m _ _ k c (Refused n) e n refl))
       go (Known i) e q =
           let is = known_facts _ m _ _ k c (Known i) e i refl in
@@ -147,7 +147,7 @@ module _ (h : TableHead) (m : List ℕ) (k : ℕ) (c : List ℕ) (shape : Shape 
       go Fresh e q =
           let new = fresh-facts _ m _ _ k c Fresh e refl in
           let all = grown-kindred new in
-          let found : seek (k ∷ c) (kindred h m k ++ (k ∷ c) ∷ []) ≡ (shelfOf h k).count =
+          let found : seek (k ∷ c) (kindred h m k ++ (k ∷ c) ∷ []) ≡ (shelf_of h k).count =
           seek-more (k ∷ c) (kindred h m k) (new.new ∙ sym (length-entries m _ _)) ∙ length-entries m _ _ in
           record {
             fine = new.fine;
@@ -156,23 +156,23 @@ module _ (h : TableHead) (m : List ℕ) (k : ℕ) (c : List ℕ) (shape : Shape 
           }
 
   -- asked again, it has the same number, and nothing changes
-  pub ask-twice : (askOf h m k c).asked.refusal ≡ 0
-      → askOf (askOf h m k c).asked.head (askOf h m k c).bytes k c
-      ≡ record { asked = record { refusal = 0; number = (askOf h m k c).asked.number; head = (askOf h m k c).asked.head }; bytes = (askOf h m k c).bytes }
+  pub ask-twice : (ask_of h m k c).asked.refusal ≡ 0
+      → ask_of (ask_of h m k c).asked.head (ask_of h m k c).bytes k c
+      ≡ record { asked = record { refusal = 0; number = (ask_of h m k c).asked.number; head = (ask_of h m k c).asked.head }; bytes = (ask_of h m k c).bytes }
   unfolding outcome
   ask-twice q =
       let placed = ask-placed q in
-      let g = (askOf h m k c).asked.head in
-      let b = (askOf h m k c).bytes in
-      let known = is_known (shelfOf g k).most b (shelfOf g k).from (shelfOf g k).count k c placed.fine _ refl placed.inside in
-      ask-case g b k c (sound-whole ask-sound) (shelfOf g k) refl _ (sym known) ∙ rw (shelf-first g h k, placed.number)
+      let g = (ask_of h m k c).asked.head in
+      let b = (ask_of h m k c).bytes in
+      let known = is_known (shelf_of g k).most b (shelf_of g k).from (shelf_of g k).count k c placed.fine _ refl placed.inside in
+      ask_case g b k c (sound-whole ask-sound) (shelf_of g k) refl _ (sym known) ∙ rw (shelf-first g h k, placed.number)
 
   -- an entry that has a number keeps it
-  pub ask-keeps : (s : ℕ) → Used h s → entry_at (askOf h m k c).bytes s ≡ entry_at m s
+  pub ask-keeps : (s : ℕ) → Used h s → entry_at (ask_of h m k c).bytes s ≡ entry_at m s
   unfolding ask decided outcome
   ask-keeps s used = rw is-outcome (go decided refl)
     where
-      go : (a : Asking) → a ≡ decided → entry_at (outcome h (shelfOf h k) m k c a).bytes s ≡ entry_at m s
+      go : (a : Asking) → a ≡ decided → entry_at (outcome h (shelf_of h k) m k c a).bytes s ≡ entry_at m s
       go (Refused n) e = refl
       go (Known i) e = refl
       go Fresh e = kept_fresh s used (fresh-facts _ m _ _ k c Fresh e refl)
@@ -189,5 +189,5 @@ entries_at m s (suc n) (suc i) h =
 pub one_number : (m : List ℕ) (s n most i j : ℕ) → Shelved m s n most → i < n → j < n → entry_at m (s + i) ≡ entry_at m (s + j) → i ≡ j
 one_number m s n most i j p hi hj e =
     let own : (x : ℕ) → x < n → seek (entry_at m (s + x)) (entries m s n) ≡ x =
-    λ x hx. ap (λ (y : List ℕ). seek y (entries m s n)) (sym (entries_at m s n x hx)) ∙ seek-own (entries m s n) x p.apart (rw (length-entries m s n) hx) in
+    λ x hx. ap (λ (y : List ℕ). seek y (entries m s n)) (sym (entries_at m s n x hx)) ∙ seek_own (entries m s n) x p.apart (rw (length-entries m s n) hx) in
     sym (own i hi) ∙ ap (λ (y : List ℕ). seek y (entries m s n)) e ∙ own j hj

@@ -15,7 +15,7 @@ kind_of (bool b) = 1
 kind_of (int z) = 2
 kind_of (string c) = 3
 
-unfoldable pub contentOf : Value → List ℕ
-contentOf (bool b) = cond b 1 0 ∷ []
-contentOf (int z) = low_bytes 8 (of_z w64 z)
-contentOf (string c) = c
+unfoldable pub content_of : Value → List ℕ
+content_of (bool b) = cond b 1 0 ∷ []
+content_of (int z) = low_bytes 8 (of_z w64 z)
+content_of (string c) = c

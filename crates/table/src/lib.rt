@@ -2,8 +2,8 @@
 ghost use Rattle.std.specs.Prelude.{◌≡◌, ◌+◌, ◌<◌, ◌≤◌, length};
 ghost use Rattle.entries.specs.Entry.{entries};
 ghost use Rattle.table.specs.Value.{bool as boolValue, int as intValue, string as stringValue};
-ghost use Rattle.table.specs.Sound.{freshHead, soundOf};
-ghost use Rattle.table.specs.Ask.{shelfOf, grownOf, tooLong, askingOf, askOf, askName, askValue, Gives};
+ghost use Rattle.table.specs.Sound.{fresh_head, sound_of};
+ghost use Rattle.table.specs.Ask.{shelf_of, grown_of, too_long, asking_of, ask_of, ask_name, ask_value, Gives};
 
 use entries::integers::{bits_of, bytes_of};
 use entries::slots::{find, put, wide};
@@ -58,7 +58,7 @@ impl TableHead {
     pub const BYTES: usize = 9214;
 
     pub fn fresh() -> TableHead
-        ensures { result ≡ freshHead }
+        ensures { result ≡ fresh_head }
     {
         TableHead {
             names: 0,
@@ -67,7 +67,7 @@ impl TableHead {
     }
 
     fn shelf(self, kind: u8) -> Shelf
-        ensures { result ≡ shelfOf self kind }
+        ensures { result ≡ shelf_of self kind }
     {
         if kind == NAME {
             return Shelf {
@@ -87,7 +87,7 @@ impl TableHead {
 
     fn grown(self, kind: u8) -> TableHead
         requires { (self.names ≤ 16) × (self.values ≤ 255) }
-        ensures { result ≡ grownOf self kind }
+        ensures { result ≡ grown_of self kind }
     {
         if kind == NAME {
             return TableHead {
@@ -103,7 +103,7 @@ impl TableHead {
 }
 
 pub fn sound(h: TableHead, table: &[u8]) -> bool
-    ensures { result ≡ soundOf h table.now }
+    ensures { result ≡ sound_of h table.now }
 {
     if table.len() != TableHead::BYTES {
         return false;
@@ -115,7 +115,7 @@ pub fn sound(h: TableHead, table: &[u8]) -> bool
 }
 
 fn too_long(kind: u8, n: usize) -> bool
-    ensures { result ≡ tooLong kind n }
+    ensures { result ≡ too_long kind n }
 {
     if n > TableHead::LONGEST {
         return true;
@@ -136,7 +136,7 @@ fn narrow(n: usize) -> u32
 // Whether an entry is refused, known or new among those of its kind.
 fn decide(table: &[u8], s: Shelf, kind: u8, bytes: &[u8]) -> Asking
     requires { (s.from + s.count ≤ 271) × (length table.now ≡ 9214) }
-    ensures { result ≡ askingOf s.most (entries table.now s.from s.count) kind bytes.now }
+    ensures { result ≡ asking_of s.most (entries table.now s.from s.count) kind bytes.now }
 {
     if too_long(kind, bytes.len()) {
         return Asking::Refused(6);
@@ -153,7 +153,7 @@ fn decide(table: &[u8], s: Shelf, kind: u8, bytes: &[u8]) -> Asking
 
 // The number of an entry, known or new.
 fn ask(h: TableHead, table: &mut [u8], kind: u8, bytes: &[u8]) -> Asked
-    ensures { Gives (askOf h table.old kind bytes.now) result table.new }
+    ensures { Gives (ask_of h table.old kind bytes.now) result table.new }
 {
     if !sound(h, table) {
         return Asked {
@@ -191,27 +191,27 @@ fn ask(h: TableHead, table: &mut [u8], kind: u8, bytes: &[u8]) -> Asked
 }
 
 pub fn ask_name(h: TableHead, table: &mut [u8], name: &[u8]) -> Asked
-    ensures { Gives (askName h table.old name.now) result table.new }
+    ensures { Gives (ask_name h table.old name.now) result table.new }
 {
     ask(h, table, NAME, name)
 }
 
 pub fn ask_bool(h: TableHead, table: &mut [u8], b: bool) -> Asked
-    ensures { Gives (askValue h table.old (boolValue b)) result table.new }
+    ensures { Gives (ask_value h table.old (boolValue b)) result table.new }
 {
     let bytes = [b as u8];
     ask(h, table, BOOL, &bytes)
 }
 
 pub fn ask_int(h: TableHead, table: &mut [u8], n: i64) -> Asked
-    ensures { Gives (askValue h table.old (intValue n)) result table.new }
+    ensures { Gives (ask_value h table.old (intValue n)) result table.new }
 {
     let bytes = bytes_of(bits_of(n));
     ask(h, table, INT, &bytes)
 }
 
 pub fn ask_string(h: TableHead, table: &mut [u8], text: &[u8]) -> Asked
-    ensures { Gives (askValue h table.old (stringValue text.now)) result table.new }
+    ensures { Gives (ask_value h table.old (stringValue text.now)) result table.new }
 {
     ask(h, table, STRING, text)
 }

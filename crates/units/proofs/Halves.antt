@@ -7,7 +7,7 @@ use native.Mathlib.Omega.{arith}
 use borrow.Author.Tests.{leb-true, ltb-true, le-leb, lt-leb, lt-ltb, le-ltb}
 use Rattle.units.specs.declared.Kind.{Kind}
 use Rattle.units.specs.declared.Kind.TheVariants.{Plain, High, Low}
-use Rattle.units.specs.Surrogates.{isHigh, isLow, half_of}
+use Rattle.units.specs.Surrogates.{is_high, is_low, half_of}
 use Rattle.units.specs.Kinds.{kind_of}
 
 -- ---- two tests at once
@@ -23,13 +23,13 @@ pub and_right : (a b : Bool) → (a && b) ≡ true → b ≡ true
 and_right true b e = e
 and_right false b e = absurd (false≢true e)
 
-pub and-no-left : (a b : Bool) → a ≡ false → (a && b) ≡ false
-and-no-left true b e = absurd (false≢true (sym e))
-and-no-left false b e = refl
+pub and_no-left : (a b : Bool) → a ≡ false → (a && b) ≡ false
+and_no-left true b e = absurd (false≢true (sym e))
+and_no-left false b e = refl
 
-pub and-no-right : (a b : Bool) → b ≡ false → (a && b) ≡ false
-and-no-right true b e = e
-and-no-right false b e = refl
+pub and_no-right : (a b : Bool) → b ≡ false → (a && b) ≡ false
+and_no-right true b e = e
+and_no-right false b e = refl
 
 pub or-first : (a b r : Bool) → r ≡ a → r ≡ true → r ≡ (a || b)
 or-first true b r e f = f
@@ -40,83 +40,83 @@ or-second true b r s e f g = absurd (false≢true (sym f ∙ e))
 or-second false b r s e f g = g
 
 -- ---- ranges
-pub high-in : (u : ℕ) → 0xD800 ≤ u → u < 0xDC00 → isHigh u ≡ true
-high-in u h k = both _ _ (le-leb 0xD800 u h) (lt-ltb u 0xDC00 k)
+pub high_in : (u : ℕ) → 0xD800 ≤ u → u < 0xDC00 → is_high u ≡ true
+high_in u h k = both _ _ (le-leb 0xD800 u h) (lt-ltb u 0xDC00 k)
 
-pub low-in : (u : ℕ) → 0xDC00 ≤ u → u < 0xE000 → isLow u ≡ true
-low-in u h k = both _ _ (le-leb 0xDC00 u h) (lt-ltb u 0xE000 k)
+pub low_in : (u : ℕ) → 0xDC00 ≤ u → u < 0xE000 → is_low u ≡ true
+low_in u h k = both _ _ (le-leb 0xDC00 u h) (lt-ltb u 0xE000 k)
 
-pub high-range : (u : ℕ) → isHigh u ≡ true → (0xD800 ≤ u) × (u < 0xDC00)
+pub high-range : (u : ℕ) → is_high u ≡ true → (0xD800 ≤ u) × (u < 0xDC00)
 high-range u e = (leb-true 0xD800 u (and_left _ _ e), ltb-true u 0xDC00 (and_right (leb 0xD800 u) _ e))
 
-pub low-range : (u : ℕ) → isLow u ≡ true → (0xDC00 ≤ u) × (u < 0xE000)
+pub low-range : (u : ℕ) → is_low u ≡ true → (0xDC00 ≤ u) × (u < 0xE000)
 low-range u e = (leb-true 0xDC00 u (and_left _ _ e), ltb-true u 0xE000 (and_right (leb 0xDC00 u) _ e))
 
-pub not-high-from : (u : ℕ) → 0xDC00 ≤ u → isHigh u ≡ false
-not-high-from u h = and-no-right (leb 0xD800 u) _ (le-ltb u 0xDC00 h)
+pub not-high_from : (u : ℕ) → 0xDC00 ≤ u → is_high u ≡ false
+not-high_from u h = and_no-right (leb 0xD800 u) _ (le-ltb u 0xDC00 h)
 
-pub not-low-below : (u : ℕ) → u < 0xDC00 → isLow u ≡ false
-not-low-below u h = and-no-left (leb 0xDC00 u) _ (lt-leb 0xDC00 u h)
+pub not-low-below : (u : ℕ) → u < 0xDC00 → is_low u ≡ false
+not-low-below u h = and_no-left (leb 0xDC00 u) _ (lt-leb 0xDC00 u h)
 
 -- neither half: below D800, and from E000 on
-pub plain-below : (u : ℕ) → u < 0xD800 → (isHigh u ≡ false) × (isLow u ≡ false)
-plain-below u h = (and-no-left (leb 0xD800 u) _ (lt-leb 0xD800 u h), not-low-below u (omega arith))
+pub plain-below : (u : ℕ) → u < 0xD800 → (is_high u ≡ false) × (is_low u ≡ false)
+plain-below u h = (and_no-left (leb 0xD800 u) _ (lt-leb 0xD800 u h), not-low-below u (omega arith))
 
-pub plain-from : (u : ℕ) → 0xE000 ≤ u → (isHigh u ≡ false) × (isLow u ≡ false)
-plain-from u h = (not-high-from u (omega arith), and-no-right (leb 0xDC00 u) _ (le-ltb u 0xE000 h))
+pub plain_from : (u : ℕ) → 0xE000 ≤ u → (is_high u ≡ false) × (is_low u ≡ false)
+plain_from u h = (not-high_from u (omega arith), and_no-right (leb 0xDC00 u) _ (le-ltb u 0xE000 h))
 
 -- never both
-pub low-not-high : (u : ℕ) → isLow u ≡ true → isHigh u ≡ false
-low-not-high u e = not-high-from u (low-range u e).0
+pub low_not-high : (u : ℕ) → is_low u ≡ true → is_high u ≡ false
+low_not-high u e = not-high_from u (low-range u e).0
 
-pub high-not-low : (u : ℕ) → isHigh u ≡ true → isLow u ≡ false
-high-not-low u e = not-low-below u (high-range u e).1
+pub high_not-low : (u : ℕ) → is_high u ≡ true → is_low u ≡ false
+high_not-low u e = not-low-below u (high-range u e).1
 
 -- ---- kinds
-pub kind-high : (u : ℕ) → isHigh u ≡ true → kind_of u ≡ High
+pub kind-high : (u : ℕ) → is_high u ≡ true → kind_of u ≡ High
 unfolding kind_of
-kind-high u e = ap (λ (b : Bool). cond b High (cond (isLow u) Low Plain)) e
+kind-high u e = ap (λ (b : Bool). cond b High (cond (is_low u) Low Plain)) e
 
-pub kind-low : (u : ℕ) → isLow u ≡ true → kind_of u ≡ Low
+pub kind-low : (u : ℕ) → is_low u ≡ true → kind_of u ≡ Low
 unfolding kind_of
-kind-low u e = ap (λ (b : Bool). cond b High (cond (isLow u) Low Plain)) (low-not-high u e) ∙ ap (λ (b : Bool). cond b Low Plain) e
+kind-low u e = ap (λ (b : Bool). cond b High (cond (is_low u) Low Plain)) (low_not-high u e) ∙ ap (λ (b : Bool). cond b Low Plain) e
 
-pub kind-plain : (u : ℕ) → (isHigh u ≡ false) × (isLow u ≡ false) → kind_of u ≡ Plain
+pub kind-plain : (u : ℕ) → (is_high u ≡ false) × (is_low u ≡ false) → kind_of u ≡ Plain
 unfolding kind_of
-kind-plain u e = ap (λ (b : Bool). cond b High (cond (isLow u) Low Plain)) e.0 ∙ ap (λ (b : Bool). cond b Low Plain) e.1
+kind-plain u e = ap (λ (b : Bool). cond b High (cond (is_low u) Low Plain)) e.0 ∙ ap (λ (b : Bool). cond b Low Plain) e.1
 
-abbrev pub highKind : Kind → Bool
-highKind Plain = false
-highKind High = true
-highKind Low = false
+abbrev pub high_kind : Kind → Bool
+high_kind Plain = false
+high_kind High = true
+high_kind Low = false
 
-abbrev pub lowKind : Kind → Bool
-lowKind Plain = false
-lowKind High = false
-lowKind Low = true
+abbrev pub low_kind : Kind → Bool
+low_kind Plain = false
+low_kind High = false
+low_kind Low = true
 
 -- a unit's kind settles both tests
-pub high-by-kind : (u : ℕ) → isHigh u ≡ highKind (kind_of u)
+pub high_by-kind : (u : ℕ) → is_high u ≡ high_kind (kind_of u)
 unfolding kind_of
-high-by-kind u = go (isHigh u) (isLow u)
+high_by-kind u = go (is_high u) (is_low u)
   where
-    go : (h l : Bool) → h ≡ highKind (cond h High (cond l Low Plain))
+    go : (h l : Bool) → h ≡ high_kind (cond h High (cond l Low Plain))
     go true l = refl
     go false true = refl
     go false false = refl
 
-pub low-by-kind : (u : ℕ) → isLow u ≡ lowKind (kind_of u)
+pub low_by-kind : (u : ℕ) → is_low u ≡ low_kind (kind_of u)
 unfolding kind_of
-low-by-kind u = go (isHigh u) (isLow u) (high-not-low u)
+low_by-kind u = go (is_high u) (is_low u) (high_not-low u)
   where
-    go : (h l : Bool) → (h ≡ true → l ≡ false) → l ≡ lowKind (cond h High (cond l Low Plain))
+    go : (h l : Bool) → (h ≡ true → l ≡ false) → l ≡ low_kind (cond h High (cond l Low Plain))
     go true l f = f refl
     go false true f = refl
     go false false f = refl
 
 -- no half at all
-pub half-none : (u : ℕ) → half_of u ≡ 0 → (isHigh u ≡ false) × (isLow u ≡ false)
-half-none u e = go (isHigh u) (isLow u) e
+pub half-none : (u : ℕ) → half_of u ≡ 0 → (is_high u ≡ false) × (is_low u ≡ false)
+half-none u e = go (is_high u) (is_low u) e
   where
     go : (h l : Bool) → ◌≡◌ {A = ℕ} (cond (h || l) 1 0) 0 → (h ≡ false) × (l ≡ false)
     go true l e = absurd (omega (arith, e))

@@ -10,8 +10,8 @@ use lib.Dec.{eqb}
 use borrow.Author.Tests.{ne_eqb}
 use lib.ListN.{length, get_or, take, drop, drop_of_length-le}
 use lib.Seq.{drop-cons, take-take}
-use Rattle.units.specs.Surrogates.{isHigh, isLow, pairedFrom, paired, splitsPair, half_of, halves}
-use Rattle.units.proofs.Halves.{and-no-left, and-no-right, half-none}
+use Rattle.units.specs.Surrogates.{is_high, is_low, paired_from, paired, splits_pair, half_of, halves}
+use Rattle.units.proofs.Halves.{and_no-left, and_no-right, half-none}
 use Rattle.units.proofs.Pairing.{drop-take}
 
 -- ---- counted from an index on
@@ -27,16 +27,16 @@ Looked us i p = eqb (halves us) 0 ≡ (p && eqb (halves (drop i us)) 0)
 
 module _ (us : List ℕ) (i : ℕ) (p : Bool) (k : Looked us i p) where
   module _ (l : i < length us) where
-    step : {x : Bool} → (isHigh (get_or us i 0) || isLow (get_or us i 0)) ≡ x → eqb (halves us) 0 ≡ (p && eqb (cond {A = ℕ} x 1 0 + halves (drop (i + 1) us)) 0)
+    step : {x : Bool} → (is_high (get_or us i 0) || is_low (get_or us i 0)) ≡ x → eqb (halves us) 0 ≡ (p && eqb (cond {A = ℕ} x 1 0 + halves (drop (i + 1) us)) 0)
     step e = k ∙ ap (λ (n : ℕ). p && eqb n 0) (halves-at us i l) ∙ ap (λ (x : Bool). p && eqb (cond {A = ℕ} x 1 0 + halves (drop (i + 1) us)) 0) e
 
-    pub looked-half : (q : Bool) → (isHigh (get_or us i 0) || isLow (get_or us i 0)) ≡ true → q ≡ false → Looked us (i + 1) q
+    pub looked-half : (q : Bool) → (is_high (get_or us i 0) || is_low (get_or us i 0)) ≡ true → q ≡ false → Looked us (i + 1) q
     looked-half q e f = step e ∙ go p ∙ ap (λ (x : Bool). x && eqb (halves (drop (i + 1) us)) 0) (sym f)
       where
         go : (b : Bool) → (b && eqb (1 + halves (drop (i + 1) us)) 0) ≡ false
-        go b = and-no-right b _ (ne_eqb (1 + halves (drop (i + 1) us)) 0 (λ z. omega (arith, z)))
+        go b = and_no-right b _ (ne_eqb (1 + halves (drop (i + 1) us)) 0 (λ z. omega (arith, z)))
 
-    pub looked-plain : (q : Bool) → (isHigh (get_or us i 0) || isLow (get_or us i 0)) ≡ false → q ≡ p → Looked us (i + 1) q
+    pub looked-plain : (q : Bool) → (is_high (get_or us i 0) || is_low (get_or us i 0)) ≡ false → q ≡ p → Looked us (i + 1) q
     looked-plain q e f = step e ∙ ap (λ (n : ℕ). p && eqb n 0) (zero-add (halves (drop (i + 1) us))) ∙ ap (λ (x : Bool). x && eqb (halves (drop (i + 1) us)) 0) (sym f)
 
   pub looked-all : length us ≤ i → p ≡ eqb (halves us) 0
@@ -60,8 +60,8 @@ halves-take (u ∷ us) (suc n) e = omega (arith, e, halves-take us n (omega (ari
 plain-whole : (us : List ℕ) → halves us ≡ 0 → paired us ≡ true
 plain-whole [] e = refl
 plain-whole (u ∷ us) e =
-    let none : (isHigh u ≡ false) × (isLow u ≡ false) = half-none u (omega (arith, e)) in
-    ap (λ (b : Bool). not b && pairedFrom (isHigh u) us) none.1 ∙ ap (λ (b : Bool). pairedFrom b us) none.0 ∙ plain-whole us (omega (arith, e))
+    let none : (is_high u ≡ false) × (is_low u ≡ false) = half-none u (omega (arith, e)) in
+    ap (λ (b : Bool). not b && paired_from (is_high u) us) none.1 ∙ ap (λ (b : Bool). paired_from b us) none.0 ∙ plain-whole us (omega (arith, e))
 
 plain-part : (us : List ℕ) (s n : ℕ) → halves us ≡ 0 → paired (take n (drop s us)) ≡ true
 plain-part us s n e = plain-whole (take n (drop s us)) (halves-take (drop s us) n (halves-drop us s e))
@@ -76,6 +76,6 @@ plain_at [] i e = refl
 plain_at (u ∷ us) zero e = omega (arith, e)
 plain_at (u ∷ us) (suc i) e = plain_at us i (omega (arith, e))
 
-pub plain-cuts : (us : List ℕ) (n : ℕ) → halves us ≡ 0 → splitsPair us n ≡ false
-plain-cuts us zero e = refl
-plain-cuts us (suc n) e = and-no-left _ _ (half-none (get_or us n 0) (plain_at us n e)).0
+pub plain_cuts : (us : List ℕ) (n : ℕ) → halves us ≡ 0 → splits_pair us n ≡ false
+plain_cuts us zero e = refl
+plain_cuts us (suc n) e = and_no-left _ _ (half-none (get_or us n 0) (plain_at us n e)).0

@@ -1,7 +1,7 @@
 // UTF-16 units: which are halves of a surrogate pair, whether a text is whole, and whether an index cuts a pair.
 ghost use Rattle.std.specs.Prelude.{◌≡◌, ◌||◌, eqb};
 ghost use Rattle.units.specs.Kinds.{kind_of};
-ghost use Rattle.units.specs.Surrogates.{isHigh, isLow, paired, splitsPair, halves};
+ghost use Rattle.units.specs.Surrogates.{is_high, is_low, paired, splits_pair, halves};
 
 #[derive(Drop)]
 pub enum Kind {
@@ -23,7 +23,7 @@ impl Kind {
 }
 
 pub fn is_high(unit: u16) -> bool
-    ensures { result ≡ isHigh unit }
+    ensures { result ≡ is_high unit }
 {
     let kind = Kind::of(unit);
     match kind {
@@ -34,7 +34,7 @@ pub fn is_high(unit: u16) -> bool
 }
 
 pub fn is_low(unit: u16) -> bool
-    ensures { result ≡ isLow unit }
+    ensures { result ≡ is_low unit }
 {
     let kind = Kind::of(unit);
     match kind {
@@ -62,7 +62,7 @@ pub fn is_whole(units: &[u16]) -> bool
 }
 
 fn is_half(unit: u16) -> bool
-    ensures { result ≡ (isHigh unit || isLow unit) }
+    ensures { result ≡ (is_high unit || is_low unit) }
 {
     is_high(unit) || is_low(unit)
 }
@@ -84,7 +84,7 @@ pub fn is_plain(units: &[u16]) -> bool
 
 // Whether `index` falls between the two halves of a pair of `units`; at the ends and past them it does not.
 pub fn splits_pair(units: &[u16], index: u32) -> bool
-    ensures { result ≡ splitsPair units.now index }
+    ensures { result ≡ splits_pair units.now index }
 {
     if index == 0 {
         return false;

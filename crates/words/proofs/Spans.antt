@@ -12,16 +12,16 @@ use Rattle.words.specs.declared.words.Class.{Class}
 use Rattle.words.specs.declared.words.Class.TheVariants.{Space, Word}
 
 -- A number for a truth, back to the truth.
-pub flag-clear : (b : Bool) (r : ℕ) → r ≡ cond b 1 0 → r ≡ 0 → b ≡ false
-flag-clear true r p q = let z : ◌≡◌ {A = ℕ} 0 1 = cc in absurd (omega arith)
-flag-clear false r p q = refl
+pub flag_clear : (b : Bool) (r : ℕ) → r ≡ cond b 1 0 → r ≡ 0 → b ≡ false
+flag_clear true r p q = let z : ◌≡◌ {A = ℕ} 0 1 = cc in absurd (omega arith)
+flag_clear false r p q = refl
 
 pub flag-set : (b : Bool) (r : ℕ) → r ≡ cond b 1 0 → (r ≡ 0 → ⊥) → b ≡ true
 flag-set true r p q = refl
 flag-set false r p q = absurd (q p)
 
 pub flipped : (b : Bool) (r : ℕ) → r ≡ cond b 1 0 → r ≡ 0 → ◌≡◌ {A = ℕ} 1 (cond (not b) 1 0)
-flipped b r p q = rw (flag-clear b r p q)
+flipped b r p q = rw (flag_clear b r p q)
 
 pub flipped_not : (b : Bool) (r : ℕ) → r ≡ cond b 1 0 → (r ≡ 0 → ⊥) → ◌≡◌ {A = ℕ} 0 (cond (not b) 1 0)
 flipped_not b r p q = rw (flag-set b r p q)
@@ -58,7 +58,7 @@ module _ {c : Class} {s : List ℕ} {from : ℕ} where
 
     module _ {r : ℕ} (h : i < length s) (e : r ≡ cond (passes c (get_or s i 0)) 1 0) where
       pub spanning-stop : r ≡ 0 → Spans c s from i
-      spanning-stop z = stopped (leading-stop c s i h (flag-clear _ r e z))
+      spanning-stop z = stopped (leading-stop c s i h (flag_clear _ r e z))
 
       pub spanning-step : (r ≡ 0 → ⊥) → Spanning c s from (i + 1)
       spanning-step n =

@@ -15,9 +15,9 @@ use lib.Count.{count_trailing_zeros}
 use Rattle.attrs.specs.declared.Attrs.{Attrs}
 use Rattle.sets.specs.Sets.{keys, those}
 use Rattle.sets.specs.Bits.{bit, keys_of, Rest}
-use Rattle.attrs.specs.Packed.{envOf, Got}
+use Rattle.attrs.specs.Packed.{env_of, Got}
 use Rattle.sets.proofs.Keys.{keys-next}
-use Rattle.words.specs.Show.{wrote, Wrote, spelled, decimalText, pairText, pairsText, attrsText}
+use Rattle.words.specs.Show.{wrote, Wrote, spelled, decimal_text, pair_text, pairs_text, attrs_text}
 
 -- ---- texts
 
@@ -75,10 +75,10 @@ copy_done out now n text i h l e =
 
 -- ---- digits
 
-pub spelled-short : (f x : ℕ) → length (spelled f x) ≤ f
+pub spelled_short : (f x : ℕ) → length (spelled f x) ≤ f
 unfolding spelled
-spelled-short zero x = omega arith
-spelled-short (suc f) x = go (ltb x 10) (spelled-short f (x / 10))
+spelled_short zero x = omega arith
+spelled_short (suc f) x = go (ltb x 10) (spelled_short f (x / 10))
   where
     go : (t : Bool) → length (spelled f (x / 10)) ≤ f → length (cond t ((48 + x) ∷ []) (spelled f (x / 10) ++ ((48 + x % 10) ∷ []))) ≤ suc f
     go true h = omega arith
@@ -88,30 +88,30 @@ small-glyph : (d : ℕ) → d < 10 → hex_digit_ascii d ≡ 48 + d
 small-glyph d h = simp (lt-ltb d 10 h)
 
 -- The fewest digits that hold a number are those that are spelled.
-spelled-digits : (f k x : ℕ) → k < f → x < 10 ^ suc k → (0 < k → 10 ^ k ≤ x) → last_digits 10 (suc k) x ≡ spelled f x
+spelled_digits : (f k x : ℕ) → k < f → x < 10 ^ suc k → (0 < k → 10 ^ k ≤ x) → last_digits 10 (suc k) x ≡ spelled f x
 unfolding spelled
-spelled-digits zero k x l h m = absurd (omega arith)
-spelled-digits (suc f) zero x l h m =
+spelled_digits zero k x l h m = absurd (omega arith)
+spelled_digits (suc f) zero x l h m =
     let lt : x < 10 = h in
     rw (lt-ltb x 10 lt, mod-eq_of_lt {n = x} {m = 10} lt, small-glyph x lt)
-spelled-digits (suc f) (suc k) x l h m =
+spelled_digits (suc f) (suc k) x l h m =
     let p : 10 ^ suc k ≡ 10 ^ k * 10 = pow-suc 10 k in
     let q : 10 ^ suc (suc k) ≡ 10 ^ suc k * 10 = pow-suc 10 (suc k) in
     let one : 1 ≤ 10 ^ k = pow-le-pow_right {n = 10} (omega arith) {i = 0} {j = k} (omega arith) in
     let low : 10 ^ suc k ≤ x = m (omega arith) in
-    let ih = spelled-digits f k (x / 10) (omega arith) (omega arith) (λ z. omega arith) in
+    let ih = spelled_digits f k (x / 10) (omega arith) (omega arith) (λ z. omega arith) in
     rw (le-ltb x 10 (omega arith)) (ap₂ (λ (s : List ℕ) (d : ℕ). s ++ (d ∷ [])) ih (small-glyph (x % 10) (omega arith)))
 
-pub decimal-is : (x k : ℕ) → IsDigitCount 10 1 x k → k ≤ 20 → last_digits 10 k x ≡ decimalText x
+pub decimal-is : (x k : ℕ) → IsDigitCount 10 1 x k → k ≤ 20 → last_digits 10 k x ≡ decimal_text x
 decimal-is x zero f l = absurd (omega (arith, f.0))
-decimal-is x (suc k) f l = spelled-digits 20 k x (omega arith) f.1 (λ z. rw (suc-less k) at (f.2 (omega arith)))
+decimal-is x (suc k) f l = spelled_digits 20 k x (omega arith) f.1 (λ z. rw (suc-less k) at (f.2 (omega arith)))
   where
     suc-less : (k : ℕ) → suc k - 1 ≡ k
     suc-less k = omega arith
 
 -- Twenty digits hold any number of 64 bits.
-pub fewest-short : (x k : ℕ) → x < 18446744073709551616 → IsDigitCount 10 1 x k → k ≤ 20
-fewest-short x k h f = go (ltb 20 k) refl
+pub fewest_short : (x k : ℕ) → x < 18446744073709551616 → IsDigitCount 10 1 x k → k ≤ 20
+fewest_short x k h f = go (ltb 20 k) refl
   where
     go : (t : Bool) → ltb 20 k ≡ t → k ≤ 20
     go false e = ltb-false 20 k e
@@ -120,61 +120,61 @@ fewest-short x k h f = go (ltb 20 k) refl
         let m : 10 ^ 20 ≤ 10 ^ (k - 1) = pow-le-pow_right {n = 10} (omega arith) {i = 20} {j = k - 1} (omega arith) in
         absurd (omega (arith, f.2 (omega arith)))
 
-pub decimal-wrote : {o p : List ℕ} {n r : ℕ} (x k : ℕ) (d : List ℕ) → x < 18446744073709551616 → IsDigitCount 10 1 x k → take k d ≡ last_digits 10 k x → Wrote o p n (take k d) r → Wrote o p n (decimalText x) r
+pub decimal-wrote : {o p : List ℕ} {n r : ℕ} (x k : ℕ) (d : List ℕ) → x < 18446744073709551616 → IsDigitCount 10 1 x k → take k d ≡ last_digits 10 k x → Wrote o p n (take k d) r → Wrote o p n (decimal_text x) r
 decimal-wrote {o} {p} {n} {r} x k d h f e w =
-    subst (λ (t : List ℕ). Wrote o p n t r) (e ∙ decimal-is x k f (fewest-short x k h f)) w
+    subst (λ (t : List ℕ). Wrote o p n t r) (e ∙ decimal-is x k f (fewest_short x k h f)) w
 
 -- ---- attributes
 
-pub pair-short : (k v : ℕ) → length (pairText k v) ≤ 42
-pair-short k v =
-    let a = spelled-short 20 k in
-    let b = spelled-short 20 v in
-    omega (arith, length-append (decimalText k) (61 ∷ decimalText v))
+pub pair_short : (k v : ℕ) → length (pair_text k v) ≤ 42
+pair_short k v =
+    let a = spelled_short 20 k in
+    let b = spelled_short 20 v in
+    omega (arith, length-append (decimal_text k) (61 ∷ decimal_text v))
 
 -- The four texts of an attribute.
 module _ {o p q r s : List ℕ} {n a b c d : ℕ} (k v : ℕ) (h : n + 42 ≤ length o) where
-  pub pair-wrote : Wrote o p n (32 ∷ []) a → Wrote p q a (decimalText k) b → Wrote q r b (61 ∷ []) c → Wrote r s c (decimalText v) d
-      → Wrote o s n (pairText k v) d
+  pub pair-wrote : Wrote o p n (32 ∷ []) a → Wrote p q a (decimal_text k) b → Wrote q r b (61 ∷ []) c → Wrote r s c (decimal_text v) d
+      → Wrote o s n (pair_text k v) d
   pair-wrote w x y z =
-      let sk = spelled-short 20 k in
-      let sv = spelled-short 20 v in
-      let two : Wrote o q n (32 ∷ decimalText k) b = then w x (omega arith) in
-      let three : Wrote o r n (32 ∷ (decimalText k ++ (61 ∷ []))) c = then two y (omega arith) in
-      let la = length-append (decimalText k) (61 ∷ []) in
-      let four : Wrote o s n (32 ∷ (decimalText k ++ (61 ∷ []) ++ decimalText v)) d = then three z (omega arith) in
+      let sk = spelled_short 20 k in
+      let sv = spelled_short 20 v in
+      let two : Wrote o q n (32 ∷ decimal_text k) b = then w x (omega arith) in
+      let three : Wrote o r n (32 ∷ (decimal_text k ++ (61 ∷ []))) c = then two y (omega arith) in
+      let la = length-append (decimal_text k) (61 ∷ []) in
+      let four : Wrote o s n (32 ∷ (decimal_text k ++ (61 ∷ []) ++ decimal_text v)) d = then three z (omega arith) in
       rw append_assoc at four
 
-those-short : (p : ℕ → Bool) (l : List ℕ) → length (those p l) ≤ length l
-those-short p [] = omega arith
-those-short p (k ∷ ks) = go (p k) (those-short p ks)
+those_short : (p : ℕ → Bool) (l : List ℕ) → length (those p l) ≤ length l
+those_short p [] = omega arith
+those_short p (k ∷ ks) = go (p k) (those_short p ks)
   where
     go : (t : Bool) → length (those p ks) ≤ length ks → length (cond t (k ∷ those p ks) (those p ks)) ≤ suc (length ks)
     go true h = omega arith
     go false h = omega arith
 
-keys-short : (m : ℕ) → length (keys_of m) ≤ 16
+keys_short : (m : ℕ) → length (keys_of m) ≤ 16
 unfolding keys_of keys
-keys-short m = those-short (λ k. eqb (bit m k) 1) keys
+keys_short m = those_short (λ k. eqb (bit m k) 1) keys
 
 keys_none : keys_of 0 ≡ []
 unfolding keys_of keys bit
 keys_none = refl
 
 module _ (a : Attrs) where
-  pairs-none : pairsText a [] ≡ []
-  unfolding pairsText
+  pairs-none : pairs_text a [] ≡ []
+  unfolding pairs_text
   pairs-none = refl
 
-  pairs-cons : (k : ℕ) (ks : List ℕ) → pairsText a (k ∷ ks) ≡ pairText k (envOf a k) ++ pairsText a ks
-  unfolding pairsText
+  pairs-cons : (k : ℕ) (ks : List ℕ) → pairs_text a (k ∷ ks) ≡ pair_text k (env_of a k) ++ pairs_text a ks
+  unfolding pairs_text
   pairs-cons k ks = refl
 
 -- The walk over the keys: what is written, and the attributes that are left, are the whole.
 pub record Listing (set : Attrs) (before now : List ℕ) (n at left : ℕ) : Type 0 where
   pub done : List ℕ
   pub put : Wrote before now n done at
-  pub rest : done ++ pairsText set (keys_of left) ≡ attrsText set
+  pub rest : done ++ pairs_text set (keys_of left) ≡ attrs_text set
   pub fits : left < 2 ^ 16
   pub room : at + 42 * length (keys_of left) ≤ length before
 
@@ -187,36 +187,36 @@ nothing-wrote out n h =
 module _ {set : Attrs} {out : List ℕ} {n : ℕ} where
   pub listing_start : set.mask < 2 ^ 16 → n + 672 ≤ length out → Listing set out out n n set.mask
   listing_start f h =
-      record { done = []; put = nothing-wrote out n (omega arith); rest = refl; fits = f; room = omega (arith, keys-short set.mask) }
+      record { done = []; put = nothing-wrote out n (omega arith); rest = refl; fits = f; room = omega (arith, keys_short set.mask) }
 
   module _ {now : List ℕ} {at left : ℕ} (w : Listing set out now n at left) where
     pub listing-room : (left ≡ 0 → ⊥) → at + 42 ≤ length now
     listing-room z = omega (arith, w.room, w.put.long, ap length (keys-next left w.fits z))
 
     pub listing_step : {now' : List ℕ} {at' v left' : ℕ} → (left ≡ 0 → ⊥) → Rest left left' → Got set (count_trailing_zeros 16 left) v
-        → Wrote now now' at (pairText (count_trailing_zeros 16 left) v) at' → Listing set out now' n at' left'
+        → Wrote now now' at (pair_text (count_trailing_zeros 16 left) v) at' → Listing set out now' n at' left'
     listing_step {now'} {at'} {v} {left'} z r g p =
         let k : ℕ = count_trailing_zeros 16 left in
         let next : keys_of left ≡ k ∷ keys_of left' = keys-next left w.fits z ∙ rw r.is in
         let count : length (keys_of left) ≡ suc (length (keys_of left')) = ap length next in
-        let short = pair-short k v in
+        let short = pair_short k v in
         record {
-          done = w.done ++ pairText k v;
+          done = w.done ++ pair_text k v;
           put = then w.put p (omega (arith, w.put.next));
           rest =
-              append_assoc w.done (pairText k v) (pairsText set (keys_of left'))
+              append_assoc w.done (pair_text k v) (pairs_text set (keys_of left'))
               ∙ ap (λ (l : List ℕ). w.done ++ l)
-              (ap (λ (x : ℕ). pairText k x ++ pairsText set (keys_of left')) g.is
+              (ap (λ (x : ℕ). pair_text k x ++ pairs_text set (keys_of left')) g.is
               ∙ sym (pairs-cons set k (keys_of left'))
-              ∙ ap (pairsText set) (sym next))
+              ∙ ap (pairs_text set) (sym next))
               ∙ w.rest;
           fits = omega (arith, r.less, w.fits);
           room = omega (arith, p.next, w.room);
         }
 
-    pub listing-done : left ≡ 0 → Wrote out now n (attrsText set) at
+    pub listing-done : left ≡ 0 → Wrote out now n (attrs_text set) at
     listing-done z =
         let none : keys_of left ≡ [] = ap keys_of z ∙ keys_none in
-        let all : w.done ≡ attrsText set =
-        sym (append-nil w.done) ∙ ap (λ (l : List ℕ). w.done ++ l) (sym (pairs-none set) ∙ ap (pairsText set) (sym none)) ∙ w.rest in
+        let all : w.done ≡ attrs_text set =
+        sym (append-nil w.done) ∙ ap (λ (l : List ℕ). w.done ++ l) (sym (pairs-none set) ∙ ap (pairs_text set) (sym none)) ∙ w.rest in
         subst (λ (t : List ℕ). Wrote out now n t at) all w.put

@@ -2,7 +2,7 @@
 use Rattle.std.specs.Prelude.{◌≡◌, cond, List, [], ◌∷◌, ◌++◌, ℕ, zero, suc, ◌+◌, ◌/◌, ◌%◌, ◌≤◌, ltb, length, take, drop}
 use Rattle.attrs.specs.declared.Attrs.{Attrs}
 use Rattle.sets.specs.Bits.{keys_of}
-use Rattle.attrs.specs.Packed.{envOf}
+use Rattle.attrs.specs.Packed.{env_of}
 
 -- The text lies behind the first n bytes, and nothing else is changed.
 unfoldable pub wrote : List ℕ → ℕ → List ℕ → List ℕ
@@ -20,23 +20,23 @@ spelled zero x = []
 spelled (suc f) x = cond (ltb x 10) ((48 + x) ∷ []) (spelled f (x / 10) ++ ((48 + x % 10) ∷ []))
 
 -- A number of 64 bits has at most twenty.
-abbrev pub decimalText : ℕ → List ℕ
-decimalText x = spelled 20 x
+abbrev pub decimal_text : ℕ → List ℕ
+decimal_text x = spelled 20 x
 
 -- `0` to `9`, then `A` to `F`.
-abbrev pub hexDigit : ℕ → ℕ
-hexDigit d = cond (ltb d 10) (48 + d) (55 + d)
+abbrev pub hex_digit : ℕ → ℕ
+hex_digit d = cond (ltb d 10) (48 + d) (55 + d)
 
-abbrev pub unitText : ℕ → List ℕ
-unitText u = 32 ∷ hexDigit (u / 4096) ∷ hexDigit (u / 256 % 16) ∷ hexDigit (u / 16 % 16) ∷ hexDigit (u % 16) ∷ []
+abbrev pub unit_text : ℕ → List ℕ
+unit_text u = 32 ∷ hex_digit (u / 4096) ∷ hex_digit (u / 256 % 16) ∷ hex_digit (u / 16 % 16) ∷ hex_digit (u % 16) ∷ []
 
-abbrev pub pairText : ℕ → ℕ → List ℕ
-pairText k v = 32 ∷ (decimalText k ++ (61 ∷ decimalText v))
+abbrev pub pair_text : ℕ → ℕ → List ℕ
+pair_text k v = 32 ∷ (decimal_text k ++ (61 ∷ decimal_text v))
 
-unfoldable pub pairsText : Attrs → List ℕ → List ℕ
-pairsText a [] = []
-pairsText a (k ∷ ks) = pairText k (envOf a k) ++ pairsText a ks
+unfoldable pub pairs_text : Attrs → List ℕ → List ℕ
+pairs_text a [] = []
+pairs_text a (k ∷ ks) = pair_text k (env_of a k) ++ pairs_text a ks
 
 -- Each key of the set with its value, null as 0.
-abbrev pub attrsText : Attrs → List ℕ
-attrsText a = pairsText a (keys_of a.mask)
+abbrev pub attrs_text : Attrs → List ℕ
+attrs_text a = pairs_text a (keys_of a.mask)

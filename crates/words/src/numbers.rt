@@ -1,6 +1,6 @@
 // What a word says.
 ghost use Rattle.std.specs.Prelude.{◌≡◌, ◌<◌, ◌≤◌, length};
-ghost use Rattle.words.specs.Numbers.{digitOf, number_of, unit_of, pair_at, piece_of};
+ghost use Rattle.words.specs.Numbers.{digit_of, number_of, unit_of, pair_at, piece_of};
 
 use crate::words::{Class, span};
 
@@ -20,7 +20,7 @@ pub enum Piece {
 
 // What a byte counts as a digit; 16 where it is none.
 fn digit(b: u8) -> u64
-    ensures { result ≡ digitOf b }
+    ensures { result ≡ digit_of b }
 {
     let d = b as u64;
     match b {

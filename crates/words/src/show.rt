@@ -1,6 +1,6 @@
 // Bytes written behind those that lie in a lent buffer already.
 ghost use Rattle.std.specs.Prelude.{◌≡◌, ◌+◌, ◌<◌, ◌≤◌, length};
-ghost use Rattle.words.specs.Show.{Wrote, decimalText, hexDigit, unitText, pairText, attrsText};
+ghost use Rattle.words.specs.Show.{Wrote, decimal_text, hex_digit, unit_text, pair_text, attrs_text};
 
 use attrs::Attrs;
 use sets::rest;
@@ -19,7 +19,7 @@ fn put(out: &mut [u8], n: usize, text: &[u8]) -> usize
 
 fn put_decimal(out: &mut [u8], n: usize, x: u64) -> usize
     requires { n + 20 ≤ length out.old }
-    ensures { Wrote out.old out.new n (decimalText x) result }
+    ensures { Wrote out.old out.new n (decimal_text x) result }
 {
     let mut digits = [0u8; 20];
     let k = io::decimal(x, &mut digits);
@@ -28,7 +28,7 @@ fn put_decimal(out: &mut [u8], n: usize, x: u64) -> usize
 
 fn hex_digit(d: u16) -> u8
     requires { d < 16 }
-    ensures { result ≡ hexDigit d }
+    ensures { result ≡ hex_digit d }
 {
     if d < 10 { 48 + d as u8 } else { 55 + d as u8 }
 }
@@ -36,7 +36,7 @@ fn hex_digit(d: u16) -> u8
 // A space and a unit of text.
 pub fn put_unit(out: &mut [u8], n: usize, u: u16) -> usize
     requires { n + 5 ≤ length out.old }
-    ensures { Wrote out.old out.new n (unitText u) result }
+    ensures { Wrote out.old out.new n (unit_text u) result }
 {
     let text = [
         b' ',
@@ -51,7 +51,7 @@ pub fn put_unit(out: &mut [u8], n: usize, u: u16) -> usize
 // A space and an attribute.
 fn put_pair(out: &mut [u8], n: usize, key: u32, value: u32) -> usize
     requires { n + 42 ≤ length out.old }
-    ensures { Wrote out.old out.new n (pairText key value) result }
+    ensures { Wrote out.old out.new n (pair_text key value) result }
 {
     let before = put(out, n, b" ");
     let between = put_decimal(out, before, key as u64);
@@ -62,7 +62,7 @@ fn put_pair(out: &mut [u8], n: usize, key: u32, value: u32) -> usize
 // The attributes of a set, each behind a space, their keys ascending.
 pub fn put_attrs(out: &mut [u8], n: usize, set: Attrs) -> usize
     requires { n + 672 ≤ length out.old }
-    ensures { Wrote out.old out.new n (attrsText set) result }
+    ensures { Wrote out.old out.new n (attrs_text set) result }
 {
     let mut at = n;
     let mut left = set.mask;

@@ -5,18 +5,18 @@ use borrow.Author.Rules.{rules}
 use lib.Dec.{eqb, lit≤}
 use Rattle.attrs.specs.declared.Attrs.{Attrs}
 use Rattle.attrs.specs.declared.Took.{Took}
-use Rattle.sets.specs.Sets.{empty, keys, bare, sameSets}
+use Rattle.sets.specs.Sets.{empty, keys, bare, same_sets}
 use Rattle.sets.specs.Bits.{bit}
-use Rattle.attrs.specs.Packed.{look, says, envOf, make, mask_of, values_of, packed, onto, withAt}
+use Rattle.attrs.specs.Packed.{look, says, env_of, make, mask_of, values_of, packed, onto, with_at}
 use Rattle.attrs.proofs.Slots.{env-past}
 use Rattle.attrs_main.proofs.refusals.Statement.{statement}
 use Rattle.attrs_main.proofs.refusals.Tie as tie
 
 abbrev A : Attrs
-A = (withAt (packed empty) 15 255).attrs
+A = (with_at (packed empty) 15 255).attrs
 
 a-is : (c : tie.After-with) → c.with.result.attrs ≡ A
-a-is c = ap (λ (t : Took). t.attrs) (c.with.ensures ∙ ap (λ (e : Attrs). withAt e 15 255) c.before.before.before.empty.ensures)
+a-is c = ap (λ (t : Took). t.attrs) (c.with.ensures ∙ ap (λ (e : Attrs). with_at e 15 255) c.before.before.before.empty.ensures)
 
 empty-requires : tie.Need-empty-requires
 empty-requires c κs = search rules
@@ -38,8 +38,8 @@ get-requires : tie.Need-get-requires
 get-requires c κs = search rules
 
 expect-requires-3 : tie.Need-expect-requires-3
-unfolding look bit make mask_of values_of packed onto says envOf
-expect-requires-3 c κs = ap (λ (x : ℕ). eqb x 255) (c.get.ensures.is ∙ ap (λ (a : Attrs). envOf a 15) (a-is c.before.before.before.before))
+unfolding look bit make mask_of values_of packed onto says env_of
+expect-requires-3 c κs = ap (λ (x : ℕ). eqb x 255) (c.get.ensures.is ∙ ap (λ (a : Attrs). env_of a 15) (a-is c.before.before.before.before))
 
 get-requires-2 : tie.Need-get-requires-2
 get-requires-2 c κs = search rules
@@ -73,7 +73,7 @@ unfolding look bit make mask_of values_of packed onto says keys
 expect-requires-8 c κs =
     let a = a-is c.before.before.before.before.before.before.before.before.before.before.before.before.before.before.before.before.before.before in
     let kept = ap (λ (t : Took). t.attrs) c.before.before.before.before.update-current-attributes.ensures in
-    c.same.ensures ∙ ap₂ (λ (x y : Attrs). sameSets keys (says x) (says y)) (kept ∙ a) a
+    c.same.ensures ∙ ap₂ (λ (x y : Attrs). same_sets keys (says x) (says y)) (kept ∙ a) a
 
 returns : tie.Need-returns
 returns c = search rules

@@ -5,9 +5,9 @@ use native.Mathlib.Omega.{arith}
 use borrow.Author.Rules.{rules}
 use lib.ListN.{length}
 use Rattle.sets.specs.Bits.{keys_of}
-use Rattle.attrs.specs.Packed.{envOf}
+use Rattle.attrs.specs.Packed.{env_of}
 use Rattle.sets.proofs.Keys.{keys_none, keys-le, first-nothing}
-use Rattle.attrs.proofs.Slots.{Part, part-all, Turn, turn-lowest, present-keys}
+use Rattle.attrs.proofs.Slots.{Part, part_all, Turn, turn-lowest, present-keys}
 use Rattle.attrs_main.specs.Sum.{sum_of}
 use Rattle.attrs_main.proofs.total.Statement.{statement}
 use Rattle.attrs_main.proofs.total.Tie as tie
@@ -15,13 +15,13 @@ use Rattle.attrs_main.proofs.total.Tie as tie
 -- what is summed and what is left make the whole; a key adds at most 255
 abbrev invariant-loop : tie.invariant-loop
 invariant-loop a left₀ sum₀ left sum =
-    Part a.mask left × (sum + sum_of (envOf a) (keys_of left) ≡ sum_of (envOf a) (keys_of a.mask)) × (sum + 255 * length (keys_of left) ≤ 4080)
+    Part a.mask left × (sum + sum_of (env_of a) (keys_of left) ≡ sum_of (env_of a) (keys_of a.mask)) × (sum + 255 * length (keys_of left) ≤ 4080)
 
 abbrev decreases-loop : tie.decreases-loop
 decreases-loop a left₀ sum₀ left sum = left
 
 loop-holds : tie.Need-loop-init invariant-loop decreases-loop
-loop-holds c = (part-all _ (search rules), omega arith, omega (arith, keys-le c.args.a.mask (search rules)))
+loop-holds c = (part_all _ (search rules), omega arith, omega (arith, keys-le c.args.a.mask (search rules)))
 
 lowest-requires : tie.Need-lowest-requires invariant-loop decreases-loop
 lowest-requires c κs = search rules
@@ -36,7 +36,7 @@ returns : tie.Need-returns invariant-loop decreases-loop
 unfolding sum_of
 returns c =
     let b = c.before.before.before in
-    let e = envOf b.before.args.a in
+    let e = env_of b.before.args.a in
     let z = first-nothing b.loop.left b.loop.invariant.0.fits (sym c.before.before.lowest.ensures ∙ c.enum_told.given.1) in
     omega (arith, ap (sum_of e) (ap keys_of z ∙ keys_none), ap (sum_of e) (present-keys b.before.args.a))
 
@@ -62,7 +62,7 @@ loop-again : tie.Need-loop-preserved invariant-loop decreases-loop
 unfolding sum_of
 loop-again c =
     let x = met c.before in
-    let e = envOf c.before.before.before.before.before.before.before.args.a in
+    let e = env_of c.before.before.before.before.before.before.before.args.a in
     (x.rest, omega (arith, ap (sum_of e) x.first), omega (arith, ap length x.first))
 
 pub total-spec : {M : Type 1} → statement M

@@ -5,7 +5,7 @@ use native.Mathlib.Nat.{add-sub_cancel_left}
 use native.Mathlib.Omega.{arith}
 use lib.ListN.{take, drop}
 use borrow.Author.Rules.{rules}
-use Rattle.units.specs.Surrogates.{splitsPair}
+use Rattle.units.specs.Surrogates.{splits_pair}
 use Rattle.cuts.proofs.cuts_piece.Statement.{statement}
 use Rattle.cuts.proofs.cuts_piece.Tie as tie
 use Rattle.cuts.proofs.cuts_piece.Reads as reads
@@ -50,7 +50,7 @@ returns c =
     let b = c.before.before.before in
     rw b.c.given.1 (
     c.splits-pair.ensures
-    ∙ ap (λ (n : ℕ). splitsPair (take n (drop b.c.given.0.0 b.before.before.before.args.used.now)) b.before.before.before.args.index) (add-sub_cancel_left b.c.given.0.0 b.c.given.0.1.0)
+    ∙ ap (λ (n : ℕ). splits_pair (take n (drop b.c.given.0.0 b.before.before.before.args.used.now)) b.before.before.before.args.index) (add-sub_cancel_left b.c.given.0.0 b.c.given.0.1.0)
     )
 
 returns-2 : tie.Need-returns-2

@@ -3,7 +3,7 @@ use borrow.Author.Rules.{rules}
 use Rattle.encoding.proofs.op_at.Statement.{statement}
 use Rattle.encoding.proofs.op_at.Tie as tie
 use borrow.Author.Tests.{lt-ltb, le-ltb}
-use Rattle.encoding.specs.Words.{found_at, opFrom}
+use Rattle.encoding.specs.Words.{found_at, op_from}
 
 mul_at : tie.Need-overflow-mul-at
 mul_at c = search rules
@@ -31,7 +31,7 @@ empty-requires-2 : tie.Need-empty-requires-2
 empty-requires-2 c κs = search rules
 
 returns-2 : tie.Need-returns-2
-unfolding found_at opFrom
+unfolding found_at op_from
 returns-2 c = rw (c.empty2.ensures, le-ltb _ _ c.before.before.before.if1.false, lt-ltb _ _ c.before.if2.true)
 
 mul-kind-of : tie.Need-overflow-mul-kind-of
@@ -104,7 +104,7 @@ cast-t33 : tie.Need-overflow-cast-t33
 cast-t33 c = search rules
 
 returns-3 : tie.Need-returns-3
-unfolding found_at opFrom
+unfolding found_at op_from
 returns-3 c = rw (c.bytes.ensures, c.before.before.before.before.before.kind-of.ensures, le-ltb _ _ c.before.before.before.before.before.before.before.before.before.before.before.if1.false, le-ltb _ _ c.before.before.before.before.before.before.before.before.before.if2.false)
 
 pub op-at-spec : {M : Type 1} → statement M

@@ -2,7 +2,7 @@
 use native.Mathlib.Omega.{arith}
 use mathlib.Core.Path.{sym, ap, ◌∙◌}
 use borrow.Author.Tests.{not-true, not-false}
-use Rattle.rules.specs.Calls.{beginNow, call}
+use Rattle.rules.specs.Calls.{begin_now, call}
 use Rattle.layout.specs.Memory.{Carried}
 use Rattle.items.specs.Calls.{answer_of}
 use Rattle.layout.proofs.Soundness.{sound-parts}
@@ -19,7 +19,7 @@ same_length c = search rules
 
 returns : tie.Need-returns
 returns c =
-    let e = carry-broken (call beginNow) _ _ _ (sym c.before.sound.ensures ∙ not-true _ c.if1.true) in
+    let e = carry-broken (call begin_now) _ _ _ (sym c.before.sound.ensures ∙ not-true _ c.if1.true) in
     (ap answer_of (sym e), ap (λ (x : Carried). x.words) (sym e))
 
 cast-n : tie.Need-overflow-cast-n

@@ -3,13 +3,13 @@ use Prim.Native.Nat.{ℕ, ◌≤◌, ◌<◌, ◌-◌}
 use native.Mathlib.Omega.{arith}
 use mathlib.Core.Path.{◌≡◌, refl, ap, ◌∙◌}
 use lib.ListN.{length, get_or}
-use Rattle.items.specs.Calls.{restWord, sweepTo}
+use Rattle.items.specs.Calls.{rest_word, sweep_to}
 use Rattle.items.proofs.Sweeps.{sweep-length, sweep-more}
 use Rattle.items.proofs.drop_flags.Statement.{statement}
 use Rattle.items.proofs.drop_flags.Tie as tie
 
 abbrev invariant-loop : tie.invariant-loop
-invariant-loop items₀ n i₀ items i = (i ≤ n) × (items ≡ sweepTo restWord i items₀)
+invariant-loop items₀ n i₀ items i = (i ≤ n) × (items ≡ sweep_to rest_word i items₀)
 
 abbrev decreases-loop : tie.decreases-loop
 decreases-loop items₀ n i₀ items i = n - i
@@ -18,10 +18,10 @@ decreases-loop items₀ n i₀ items i = n - i
 inside : (c : tie.In-loop invariant-loop decreases-loop) → c.before.loop.i < length c.before.loop.items
 inside c =
     let a = c.before.before.before.args in
-    omega (arith, ap length c.before.loop.invariant.1 ∙ sweep-length restWord a.items.now c.before.loop.i)
+    omega (arith, ap length c.before.loop.invariant.1 ∙ sweep-length rest_word a.items.now c.before.loop.i)
 
 loop-holds : tie.Need-loop-init invariant-loop decreases-loop
-unfolding sweepTo
+unfolding sweep_to
 loop-holds c = (omega arith, refl)
 
 mul-unpack : tie.Need-overflow-mul-unpack invariant-loop decreases-loop
@@ -51,18 +51,18 @@ loop-less c = omega arith
 loop-again : tie.Need-loop-preserved invariant-loop decreases-loop
 loop-again c =
     let at-loop = c.before.before.before.before in
-    let w : c.pack.result ≡ restWord (get_or at-loop.loop.items at-loop.loop.i 0) = rw (c.pack.ensures, c.before.unpack.ensures) in
+    let w : c.pack.result ≡ rest_word (get_or at-loop.loop.items at-loop.loop.i 0) = rw (c.pack.ensures, c.before.unpack.ensures) in
     (omega arith, sweep-more _ _ _ _ _ at-loop.loop.invariant.1 w)
 
 same_length : tie.Need-same-length invariant-loop decreases-loop
-same_length c = ap length c.before.loop.invariant.1 ∙ sweep-length restWord _ _
+same_length c = ap length c.before.loop.invariant.1 ∙ sweep-length rest_word _ _
 
 returns : tie.Need-returns invariant-loop decreases-loop
 returns c =
     let at-loop = c.before in
     let a = at-loop.before.before.args in
     let e : at-loop.loop.i ≡ a.n = omega arith in
-    at-loop.loop.invariant.1 ∙ ap (λ (i : ℕ). sweepTo restWord i a.items.now) e
+    at-loop.loop.invariant.1 ∙ ap (λ (i : ℕ). sweep_to rest_word i a.items.now) e
 
 pub drop-flags-spec : {M : Type 1} → statement M
 drop-flags-spec =

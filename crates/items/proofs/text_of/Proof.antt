@@ -3,7 +3,7 @@ use native.Mathlib.Omega.{arith}
 use mathlib.Core.Path.{◌≡◌, sym, ◌∙◌}
 use mathlib.Core.Bool.{true}
 use borrow.Author.Tests.{not-true, not-false}
-use Rattle.layout.specs.Memory.{soundOf}
+use Rattle.layout.specs.Memory.{sound_of}
 use Rattle.layout.proofs.Soundness.{sound-parts}
 use Rattle.items.proofs.Showing.{text-broken, text-unused, text-is, text-room, text-part}
 use borrow.Author.Rules.{rules}
@@ -13,7 +13,7 @@ use Rattle.items.proofs.text_of.Tie as tie
 -- where the item is read: the sheet is sound, and the number is used
 sound-here : (c : tie.Else2) → (
     let a = c.before.before.before.before.before.before.args in
-    soundOf a.h a.items.now a.units.now ≡ true
+    sound_of a.h a.items.now a.units.now ≡ true
     )
 sound-here c = sym c.before.before.before.sound.ensures ∙ not-false _ c.before.before.if1.false
 

@@ -3,7 +3,7 @@ use native.Mathlib.Omega.{arith}
 use mathlib.Core.Path.{sym, ◌∙◌}
 use borrow.Author.Tests.{not-true, not-false, eq-eqb, ne_eqb}
 use borrow.Author.Rules.{rules}
-use Rattle.lookup.specs.Show.{value_of, bytes_of, stringOf, value_at}
+use Rattle.lookup.specs.Show.{value_of, bytes_of, string_of, value_at}
 use Rattle.lookup.proofs.Numbers.{given-value}
 use Rattle.lookup.proofs.string_bytes.Statement.{statement}
 use Rattle.lookup.proofs.string_bytes.Tie as tie
@@ -15,7 +15,7 @@ slice-aggregate-result : tie.Need-slice-aggregate-result
 slice-aggregate-result c = search rules
 
 returns : tie.Need-returns
-unfolding stringOf
+unfolding string_of
 returns c = rw (sym c.before.before.given-value.ensures ∙ not-true _ c.before.if1.true)
 
 wide-requires : tie.Need-wide-requires
@@ -35,7 +35,7 @@ slice-aggregate-result-2 : tie.Need-slice-aggregate-result-2
 slice-aggregate-result-2 c = search rules
 
 returns-2 : tie.Need-returns-2
-unfolding stringOf value_at value_of bytes_of
+unfolding string_of value_at value_of bytes_of
 returns-2 c =
     let given = sym c.before.before.before.before.before.given-value.ensures ∙ not-false _ c.before.before.before.before.if1.false in
     let kind = rw c.before.before.before.wide.ensures at c.before.before.kind_at.ensures in
@@ -45,7 +45,7 @@ slice-aggregate-result-3 : tie.Need-slice-aggregate-result-3
 slice-aggregate-result-3 c = search rules
 
 returns-3 : tie.Need-returns-3
-unfolding stringOf value_at value_of bytes_of
+unfolding string_of value_at value_of bytes_of
 returns-3 c =
     let given = sym c.before.before.before.before.before.before.given-value.ensures ∙ not-false _ c.before.before.before.before.before.if1.false in
     let kind = rw c.before.before.before.before.wide.ensures at c.before.before.before.kind_at.ensures in
@@ -55,7 +55,7 @@ content-requires : tie.Need-content-requires
 content-requires c κs = kind-at-requires c.before.before.before κs
 
 returns-4 : tie.Need-returns-4
-unfolding stringOf value_at value_of bytes_of
+unfolding string_of value_at value_of bytes_of
 returns-4 c =
     let given = sym c.before.before.before.before.before.before.given-value.ensures ∙ not-false _ c.before.before.before.before.before.if1.false in
     let kind = rw c.before.before.before.before.wide.ensures at c.before.before.before.kind_at.ensures in

@@ -7,8 +7,8 @@ use mir.Val.{SFits}
 use mir.Facts.{to_z-of_z}
 use borrow.Author.Tests.{not-true, not-false, eq-eqb, ne_eqb}
 use borrow.Author.Rules.{rules}
-use Rattle.lookup.specs.Show.{value_of, shownOf, value_at, case_of}
-use Rattle.lookup.proofs.Numbers.{given-value, given-short}
+use Rattle.lookup.specs.Show.{value_of, shown_of, value_at, case_of}
+use Rattle.lookup.proofs.Numbers.{given-value, given_short}
 use Rattle.lookup.proofs.value_at.Statement.{statement}
 use Rattle.lookup.proofs.value_at.Tie as tie
 
@@ -16,7 +16,7 @@ given-value-requires : tie.Need-given-value-requires
 given-value-requires c κs = search rules
 
 returns : tie.Need-returns
-unfolding shownOf
+unfolding shown_of
 returns c = rw (sym c.before.given-value.ensures ∙ not-true _ c.if1.true)
 
 wide-requires : tie.Need-wide-requires
@@ -39,10 +39,10 @@ number-of-requires : tie.Need-number-of-requires
 number-of-requires c κs =
     let given = given-value _ _ _ (sym c.before.before.before.before.before.given-value.ensures ∙ not-false _ c.before.before.before.before.if1.false) in
     let kind = rw c.before.before.before.wide.ensures at c.before.before.kind_at.ensures in
-    rw (c.content.ensures, c.before.before.before.wide.ensures) (given-short given _ kind (inl c.before.if2.true))
+    rw (c.content.ensures, c.before.before.before.wide.ensures) (given_short given _ kind (inl c.before.if2.true))
 
 returns-2 : tie.Need-returns-2
-unfolding shownOf value_at value_of case_of
+unfolding shown_of value_at value_of case_of
 returns-2 c =
     let given = sym c.before.before.before.before.before.before.given-value.ensures ∙ not-false _ c.before.before.before.before.before.if1.false in
     let kind = rw c.before.before.before.before.wide.ensures at c.before.before.before.kind_at.ensures in
@@ -56,13 +56,13 @@ number-of-requires-2 : tie.Need-number-of-requires-2
 number-of-requires-2 c κs =
     let given = given-value _ _ _ (sym c.before.before.before.before.before.before.given-value.ensures ∙ not-false _ c.before.before.before.before.before.if1.false) in
     let kind = rw c.before.before.before.before.wide.ensures at c.before.before.before.kind_at.ensures in
-    rw (c.content2.ensures, c.before.before.before.before.wide.ensures) (given-short given _ kind (inr c.before.if3.true))
+    rw (c.content2.ensures, c.before.before.before.before.wide.ensures) (given_short given _ kind (inr c.before.if3.true))
 
 integer-of-requires : tie.Need-integer-of-requires
 integer-of-requires c κs = search rules
 
 returns-3 : tie.Need-returns-3
-unfolding shownOf value_at value_of case_of
+unfolding shown_of value_at value_of case_of
 returns-3 c =
     let given = sym c.before.before.before.before.before.before.before.before.given-value.ensures ∙ not-false _ c.before.before.before.before.before.before.before.if1.false in
     let kind = rw c.before.before.before.before.before.before.wide.ensures at c.before.before.before.before.before.kind_at.ensures in
@@ -71,7 +71,7 @@ returns-3 c =
     rw (given, ← kind, ne_eqb _ _ c.before.before.before.before.if2.false, eq-eqb _ _ c.before.before.before.if3.true, to_z-of_z fits, c.integer-of.ensures, number)
 
 returns-4 : tie.Need-returns-4
-unfolding shownOf value_at value_of case_of
+unfolding shown_of value_at value_of case_of
 returns-4 c =
     let given = sym c.before.before.before.before.before.given-value.ensures ∙ not-false _ c.before.before.before.before.if1.false in
     let kind = rw c.before.before.before.wide.ensures at c.before.before.kind_at.ensures in

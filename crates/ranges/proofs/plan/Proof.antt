@@ -5,8 +5,8 @@ use mathlib.Core.Bool.{true}
 use lib.ListN.{length}
 use borrow.Author.Rules.{rules}
 use Rattle.rules.specs.Reading.{visible}
-use Rattle.layout.specs.Memory.{list_of, soundOf}
-use Rattle.ranges.specs.Texts.{textIn}
+use Rattle.layout.specs.Memory.{list_of, sound_of}
+use Rattle.ranges.specs.Texts.{text_in}
 use Rattle.ranges.proofs.Ranges.{length-broken, length-sound, text-long, plan-broken, plan-pair, plan-short, plan-fits}
 use Rattle.ranges.proofs.plan.Statement.{statement}
 use Rattle.ranges.proofs.plan.Tie as tie
@@ -14,14 +14,14 @@ use Rattle.ranges.proofs.plan.Tie as tie
 -- the sheet is sound
 ok : (c : tie.Else1) → (
     let a = c.before.before.before.before.before.args in
-    (soundOf a.h a.items.now a.units.now ≡ true) × (c.before.before.len.result.len ≡ visible (list_of a.h a.items.now))
+    (sound_of a.h a.items.now a.units.now ≡ true) × (c.before.before.len.result.len ≡ visible (list_of a.h a.items.now))
     )
 ok c = length-sound _ _ c.before.before.before.before.before.args.units.now _ c.before.before.len.ensures c.if1.left
 
 -- how long the text is
 long : (c : tie.After-span) → (
     let a = c.before.before.before.before.before.before.before.before.args in
-    c.span.result ≡ length (textIn a.h a.items.now a.units.now a.index a.len)
+    c.span.result ≡ length (text_in a.h a.items.now a.units.now a.index a.len)
     )
 long c =
     let a = c.before.before.before.before.before.before.before.before.args in

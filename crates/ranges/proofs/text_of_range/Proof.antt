@@ -4,8 +4,8 @@ use mathlib.Core.Path.{◌≡◌}
 use mathlib.Core.Bool.{true}
 use lib.ListN.{length}
 use borrow.Author.Rules.{rules}
-use Rattle.layout.specs.Memory.{soundOf}
-use Rattle.ranges.specs.Texts.{textIn}
+use Rattle.layout.specs.Memory.{sound_of}
+use Rattle.ranges.specs.Texts.{text_in}
 use Rattle.ranges.proofs.Ranges.{reads-start, text-within, copied_none, granted, copied-fits}
 use Rattle.ranges.proofs.text_of_range.Statement.{statement}
 use Rattle.ranges.proofs.text_of_range.Tie as tie
@@ -20,7 +20,7 @@ returns c = copied_none _ _ _ _ _ _ _ c.before.before.plan.ensures c.if1.taken
 fits : (c : tie.Else1) → (
     let a = c.before.before.before.before.before.before.args in
     let k = c.before.before.plan.result.count in
-    (soundOf a.h a.items.now a.units.now ≡ true) × (k ≡ length (textIn a.h a.items.now a.units.now a.index a.len)) × (k ≤ length a.out.now)
+    (sound_of a.h a.items.now a.units.now ≡ true) × (k ≡ length (text_in a.h a.items.now a.units.now a.index a.len)) × (k ≤ length a.out.now)
     )
 fits c =
     let a = c.before.before.before.before.before.before.args in

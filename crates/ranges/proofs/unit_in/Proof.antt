@@ -1,6 +1,6 @@
 -- `ranges::unit_in` meets its contract. Assumes nothing.
 use native.Mathlib.Omega.{arith}
-use Rattle.ranges.specs.Texts.{unitIn}
+use Rattle.ranges.specs.Texts.{unit_in}
 use Rattle.ranges.proofs.Texts.{in-piece}
 use borrow.Author.Rules.{rules}
 use Rattle.ranges.proofs.unit_in.Statement.{statement}
@@ -28,15 +28,15 @@ enum-told-2 : tie.Need-enum-told-2
 enum-told-2 c = search rules
 
 returns : tie.Need-returns
-unfolding unitIn
+unfolding unit_in
 returns c = rw c.before.before.c.given.1
 
 returns-2 : tie.Need-returns-2
-unfolding unitIn
+unfolding unit_in
 returns-2 c = rw c.enum_told.given.1
 
 returns-3 : tie.Need-returns-3
-unfolding unitIn
+unfolding unit_in
 returns-3 c = rw c.enum-told2.given.1
 
 pub unit-in-spec : {M : Type 1} → statement M

@@ -3,7 +3,7 @@ use native.Mathlib.Omega.{arith}
 use mathlib.Core.List.{List}
 use Prim.Native.Nat.{ℕ}
 use Rattle.rules.specs.Rulings.{seen}
-use Rattle.layout.specs.Memory.{modelOf}
+use Rattle.layout.specs.Memory.{model_of}
 use Rattle.cuts.proofs.Sounds.{length-is}
 use Rattle.refusals.proofs.Ranges.{fault-pair, fault-zero, fault-short, fault-none}
 use borrow.Author.Rules.{rules}
@@ -11,7 +11,7 @@ use Rattle.refusals.proofs.removal_fault.Statement.{statement}
 use Rattle.refusals.proofs.removal_fault.Tie as tie
 
 abbrev text : tie.Start → List ℕ
-text s = seen (modelOf s.args.h s.args.items.now s.args.units.now)
+text s = seen (model_of s.args.h s.args.items.now s.args.units.now)
 
 range-fault-requires : tie.Need-range-fault-requires
 range-fault-requires c κs = c.before.before.requires.0

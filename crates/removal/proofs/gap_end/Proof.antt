@@ -3,7 +3,7 @@ use mathlib.Core.Path.{◌≡◌, sym, ◌∙◌}
 use native.Mathlib.Omega.{arith}
 use borrow.Author.Rules.{rules}
 use borrow.Author.Tests.{not-true, not-false}
-use Rattle.rules.specs.Sheet.{isMark}
+use Rattle.rules.specs.Sheet.{is_mark}
 use Rattle.layout.specs.declared.head.Head.{Head}
 use Rattle.layout.specs.Chain.{item_at}
 use Rattle.arena.specs.Places.{Standing, Going}
@@ -45,7 +45,7 @@ stays-in-gap-requires c κs = search rules
 -- what the answer says of the item
 told : (c : tie.After-stays-in-gap invariant-loop decreases-loop) → (
     let t = c.before.before.before in
-    c.stays-in-gap.result ≡ isMark (item_at t.before.before.before.before.args.items.now t.before.before.loop.at.right).what
+    c.stays-in-gap.result ≡ is_mark (item_at t.before.before.before.before.args.items.now t.before.before.loop.at.right).what
     )
 told c = c.stays-in-gap.ensures ∙ mark-is _ _ c.before.unpack.ensures
 

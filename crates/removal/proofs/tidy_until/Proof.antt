@@ -9,8 +9,8 @@ use Rattle.layout.specs.declared.head.Head.{Head}
 use Rattle.arena.specs.Places.{Standing, Going}
 use Rattle.arena.proofs.Carried.{going_start}
 use Rattle.arena.proofs.Standing.{right_lt}
-use Rattle.attrs.specs.Packed.{envOf}
-use Rattle.removal.specs.Tidies.{tidyFirst}
+use Rattle.attrs.specs.Packed.{env_of}
+use Rattle.removal.specs.Tidies.{tidy_first}
 use Rattle.removal.proofs.Gaps.{tidied-past, tidied-all}
 use Rattle.removal.proofs.tidy_until.Statement.{statement}
 use Rattle.removal.proofs.tidy_until.Tie as tie
@@ -18,7 +18,7 @@ use Rattle.removal.proofs.tidy_until.Tie as tie
 abbrev invariant-loop : tie.invariant-loop
 invariant-loop items₀ stop start end at₀ items at =
     (h : Head) → Standing h items₀ at₀
-    → Going (tidyFirst (at₀.todo - stop) (envOf start) (envOf end)) h items₀ at₀ (tidyFirst (at.todo - stop) (envOf start) (envOf end)) h items at
+    → Going (tidy_first (at₀.todo - stop) (env_of start) (env_of end)) h items₀ at₀ (tidy_first (at.todo - stop) (env_of start) (env_of end)) h items at
 
 abbrev decreases-loop : tie.decreases-loop
 decreases-loop items₀ stop start end at₀ items at = at.todo

@@ -1,7 +1,7 @@
 -- `soundness::content_ok` meets its contract. Assumes nothing.
 use mathlib.Core.Path.{sym, ap, ◌∙◌}
 use borrow.Author.Rules.{rules}
-use Rattle.layout.specs.Memory.{whatOk}
+use Rattle.layout.specs.Memory.{what_ok}
 use Rattle.soundness.proofs.Payloads.{as-text, as-embed, mark-ok}
 use Rattle.soundness.proofs.content_ok.Statement.{statement}
 use Rattle.soundness.proofs.content_ok.Tie as tie
@@ -16,10 +16,10 @@ piece-ok-requires : tie.Need-piece-ok-requires
 piece-ok-requires c κs = search rules
 
 returns : tie.Need-returns
-returns c = c.piece-ok.ensures ∙ ap (whatOk _ _) (sym (as-text _ _ c.before.if1.true))
+returns c = c.piece-ok.ensures ∙ ap (what_ok _ _) (sym (as-text _ _ c.before.if1.true))
 
 returns-2 : tie.Need-returns-2
-unfolding whatOk
+unfolding what_ok
 returns-2 c = rw (as-embed _ _ c.if2.true)
 
 returns-3 : tie.Need-returns-3

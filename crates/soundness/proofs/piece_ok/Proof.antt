@@ -4,7 +4,7 @@ use native.Mathlib.Omega.{arith}
 use native.Mathlib.Nat.{add-sub_cancel_left}
 use mathlib.Core.Path.{sym, ◌∙◌}
 use Rattle.units.proofs.Plain.{plain-piece}
-use Rattle.layout.proofs.Soundness.{piece-empty, piece-out, piece-in}
+use Rattle.layout.proofs.Soundness.{piece-empty, piece-out, piece_in}
 use borrow.Author.Rules.{rules}
 use Rattle.soundness.proofs.piece_ok.Statement.{statement}
 use Rattle.soundness.proofs.piece_ok.Tie as tie
@@ -41,14 +41,14 @@ returns-3 c =
     let s = c.before.before.before.before in
     let z : 0 < s.args.len = omega arith in
     let l : s.args.start + s.args.len ≤ s.args.used = omega arith in
-    sym (piece-in _ _ _ _ z l ∙ plain-piece _ _ _ _ l (s.requires.1 c.if3.true))
+    sym (piece_in _ _ _ _ z l ∙ plain-piece _ _ _ _ l (s.requires.1 c.if3.true))
 
 returns-4 : tie.Need-returns-4
 returns-4 c =
     let a = c.before.before.before.before.before.before.args in
     let z : 0 < a.len = omega arith in
     let l : a.start + a.len ≤ a.used = omega arith in
-    rw (c.is_whole.ensures, add-sub_cancel_left a.start a.len) (sym (piece-in _ _ _ _ z l))
+    rw (c.is_whole.ensures, add-sub_cancel_left a.start a.len) (sym (piece_in _ _ _ _ z l))
 
 pub piece-ok-spec : {M : Type 1} → statement M
 piece-ok-spec =

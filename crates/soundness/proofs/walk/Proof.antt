@@ -8,11 +8,11 @@ use borrow.Author.Tests.{not-true, not-false, ne_eqb, eq-eqb}
 use lib.ListN.{get_or}
 use lib.Dec.{eqb}
 use mathlib.Core.Bool.{true}
-use Rattle.units.proofs.Halves.{and-no-left}
+use Rattle.units.proofs.Halves.{and_no-left}
 use Rattle.rules.specs.Reading.{visible}
 use Rattle.layout.specs.Chain.{END, item_at, next_at, chain}
-use Rattle.layout.specs.Memory.{len_of, wordOk, soundOf}
-use Rattle.layout.proofs.Soundness.{restOk, sound-rest, rest_out, rest-bad, rest_over, rest-step, rest_end, word-parts, ok-len}
+use Rattle.layout.specs.Memory.{len_of, word_ok, sound_of}
+use Rattle.layout.proofs.Soundness.{rest_ok, sound-rest, rest_out, rest-bad, rest_over, rest-step, rest_end, word-parts, ok-len}
 use Rattle.layout.proofs.Lengths.{visible-step, visible-end, shown-le}
 use Rattle.soundness.proofs.Measures.{measured-broken, measured-sound}
 use Rattle.soundness.proofs.walk.Statement.{statement}
@@ -20,7 +20,7 @@ use Rattle.soundness.proofs.walk.Tie as tie
 
 abbrev invariant-loop : tie.invariant-loop
 invariant-loop items units plain n used at₀ k₀ sum₀ len₀ at k sum len =
-    (k ≤ n) × (sum ≤ used) × (restOk n used items units k at sum ≡ restOk n used items units n at₀ 0)
+    (k ≤ n) × (sum ≤ used) × (rest_ok n used items units k at sum ≡ rest_ok n used items units n at₀ 0)
     × (len ≤ sum + (n - k)) × (len + visible (chain k items at) ≡ visible (chain n items at₀))
 
 abbrev decreases-loop : tie.decreases-loop
@@ -29,7 +29,7 @@ decreases-loop items units plain n used at₀ k₀ sum₀ len₀ at k sum len = 
 -- at each turn: what is left, and of the item that is met, that its word is in order, and its length
 whole_is : (c : tie.At-loop invariant-loop decreases-loop) → (
     let a = c.before.before.before.args in
-    soundOf a.h a.items.now a.units.now ≡ restOk a.h.items a.h.units a.items.now a.units.now c.loop.k c.loop.at c.loop.sum
+    sound_of a.h a.items.now a.units.now ≡ rest_ok a.h.items a.h.units a.items.now a.units.now c.loop.k c.loop.at c.loop.sum
     )
 whole_is c =
     let sized = c.before.before.before.requires.0 in
@@ -38,7 +38,7 @@ whole_is c =
 word-is : (c : tie.After-text-len invariant-loop decreases-loop) → (
     let l = c.before.before.before.before.before.before.before.before in
     let a = l.before.before.before.args in
-    wordOk a.units.now a.h.units (get_or a.items.now l.loop.at 0) ≡ true
+    word_ok a.units.now a.h.units (get_or a.items.now l.loop.at 0) ≡ true
     )
 word-is c = sym c.before.before.before.before.word_ok.ensures ∙ not-false _ c.before.before.before.if2.false
 
@@ -178,13 +178,13 @@ returns-4 c =
     let off = c.before in
     let at-loop = off.before.before in
     measured-broken _ _ _ _ c.broken4.ensures
-    (sym (whole_is at-loop ∙ rest_end _ _ _ _ _ _ _ off.before.loop-test.false ∙ and-no-left _ _ (ne_eqb _ _ off.if4.true)))
+    (sym (whole_is at-loop ∙ rest_end _ _ _ _ _ _ _ off.before.loop-test.false ∙ and_no-left _ _ (ne_eqb _ _ off.if4.true)))
 
 -- at the end of the links the sum decides
 ended : (c : tie.Else4 invariant-loop decreases-loop) → (
     let at-loop = c.before.before in
     let a = at-loop.before.before.before.args in
-    soundOf a.h a.items.now a.units.now ≡ eqb at-loop.loop.sum a.h.units
+    sound_of a.h a.items.now a.units.now ≡ eqb at-loop.loop.sum a.h.units
     )
 ended c =
     let at-loop = c.before.before in

@@ -3,9 +3,9 @@ use native.Mathlib.Omega.{arith}
 use mathlib.Core.Path.{refl, sym, ◌∙◌}
 use borrow.Author.Tests.{not-true, not-false}
 use borrow.Author.Rules.{rules}
-use Rattle.table.specs.Ask.{askOf, outcome}
+use Rattle.table.specs.Ask.{ask_of, outcome}
 use Rattle.table.proofs.Tables.{sound-parts, shelf-room}
-use Rattle.table.proofs.Asks.{ask-case, known_facts, fresh-facts}
+use Rattle.table.proofs.Asks.{ask_case, known_facts, fresh-facts}
 use Rattle.table.proofs.ask.Statement.{statement}
 use Rattle.table.proofs.ask.Tie as tie
 
@@ -16,7 +16,7 @@ same_length : tie.Need-same-length
 same_length c = search rules
 
 returns : tie.Need-returns
-unfolding askOf
+unfolding ask_of
 returns c = rw (sym c.before.sound.ensures ∙ not-true _ c.if1.true) (refl, refl)
 
 shelf-requires : tie.Need-shelf-requires
@@ -38,7 +38,7 @@ returns-2 : tie.Need-returns-2
 unfolding outcome
 returns-2 c =
     let is = sym c.before.before.before.before.before.before.before.sound.ensures ∙ not-false _ c.before.before.before.before.before.before.if1.false in
-    rw (ask-case _ _ _ _ is _ c.before.before.before.before.before.shelf.ensures _ c.before.before.before.decide.ensures, c.before.a.given.1) (refl, refl)
+    rw (ask_case _ _ _ _ is _ c.before.before.before.before.before.shelf.ensures _ c.before.before.before.decide.ensures, c.before.a.given.1) (refl, refl)
 
 enum-known-a-2 : tie.Need-enum-known-a-2
 enum-known-a-2 c = search rules
@@ -56,7 +56,7 @@ returns-3 : tie.Need-returns-3
 unfolding outcome
 returns-3 c =
     let is = sym c.before.before.before.before.before.before.before.before.sound.ensures ∙ not-false _ c.before.before.before.before.before.before.before.if1.false in
-    rw (ask-case _ _ _ _ is _ c.before.before.before.before.before.before.shelf.ensures _ c.before.before.before.before.decide.ensures, c.before.before.a2.given.1) (refl, refl)
+    rw (ask_case _ _ _ _ is _ c.before.before.before.before.before.before.shelf.ensures _ c.before.before.before.before.decide.ensures, c.before.before.a2.given.1) (refl, refl)
 
 enum_told : tie.Need-enum-told
 enum_told c = search rules
@@ -98,7 +98,7 @@ unfolding outcome
 returns-4 c =
     let arm = c.before.before.before.before.before.before.before.before in
     let is = sym arm.before.before.before.before.before.before.sound.ensures ∙ not-false _ arm.before.before.before.before.before.if1.false in
-    rw (ask-case _ _ _ _ is _ arm.before.before.before.before.shelf.ensures _ arm.before.before.decide.ensures, arm.enum_told.given.1) (
+    rw (ask_case _ _ _ _ is _ arm.before.before.before.before.shelf.ensures _ arm.before.before.decide.ensures, arm.enum_told.given.1) (
       rw c.grown.ensures,
       rw (c.before.before.before.before.before.before.wide.ensures, c.before.before.before.before.before.wide2.ensures) at c.before.before.before.before.put.ensures,
     )

@@ -1,6 +1,6 @@
 -- `table::ask_bool` meets its contract. Assumes nothing.
 use borrow.Author.Rules.{rules}
-use Rattle.table.specs.Value.{kind_of, contentOf}
+use Rattle.table.specs.Value.{kind_of, content_of}
 use Rattle.entries.proofs.Bits.{bool-byte}
 use Rattle.table.proofs.ask_bool.Statement.{statement}
 use Rattle.table.proofs.ask_bool.Tie as tie
@@ -18,7 +18,7 @@ same_length : tie.Need-same-length
 same_length c = search rules
 
 returns : tie.Need-returns
-unfolding kind_of contentOf
+unfolding kind_of content_of
 returns c = rw (bool-byte c.before.before.before.before.before.before.args.b) at c.before.before.ask.ensures
 
 pub ask-bool-spec : {M : Type 1} → statement M

@@ -4,7 +4,7 @@ use mir.Syntax.{w64}
 use mir.Val.{of_z}
 use mir.Facts.{to_z-of_z}
 use borrow.Author.Rules.{rules}
-use Rattle.table.specs.Value.{kind_of, contentOf}
+use Rattle.table.specs.Value.{kind_of, content_of}
 use Rattle.table.proofs.ask_int.Statement.{statement}
 use Rattle.table.proofs.ask_int.Tie as tie
 
@@ -24,7 +24,7 @@ same_length : tie.Need-same-length
 same_length c = search rules
 
 returns : tie.Need-returns
-unfolding kind_of contentOf
+unfolding kind_of content_of
 returns c =
     let start = c.before.before.before.before.before.before.before.before in
     let bits = c.before.before.before.before.before.before.bits_of.ensures ∙ ap (of_z w64) (to_z-of_z start.ranges.n) in

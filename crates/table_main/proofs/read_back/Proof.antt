@@ -1,4 +1,4 @@
--- `table_main::read_back` meets its contract. Assumes nothing.
+-- `table_main::read_back_lem` meets its contract. Assumes nothing.
 use Prim.Native.Nat.{◌≤◌, ◌-◌}
 use borrow.Author.Rules.{rules}
 use Rattle.table_main.proofs.read_back.Statement.{statement}

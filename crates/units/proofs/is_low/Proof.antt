@@ -1,7 +1,7 @@
 -- `units::is_low` meets its contract: the unit's kind settles it. Assumes nothing.
 use mathlib.Core.Path.{sym, ap, ◌∙◌}
 use borrow.Author.Rules.{rules}
-use Rattle.units.proofs.Halves.{lowKind, low-by-kind}
+use Rattle.units.proofs.Halves.{low_kind, low_by-kind}
 use Rattle.units.proofs.is_low.Statement.{statement}
 use Rattle.units.proofs.is_low.Tie as tie
 
@@ -18,13 +18,13 @@ enum-told-3 : tie.Need-enum-told-3
 enum-told-3 c = search rules
 
 returns : tie.Need-returns
-returns c = sym (low-by-kind _ ∙ ap lowKind (sym c.before.before.of.ensures ∙ c.enum_told.given.1))
+returns c = sym (low_by-kind _ ∙ ap low_kind (sym c.before.before.of.ensures ∙ c.enum_told.given.1))
 
 returns-2 : tie.Need-returns-2
-returns-2 c = sym (low-by-kind _ ∙ ap lowKind (sym c.before.before.of.ensures ∙ c.enum-told2.given.1))
+returns-2 c = sym (low_by-kind _ ∙ ap low_kind (sym c.before.before.of.ensures ∙ c.enum-told2.given.1))
 
 returns-3 : tie.Need-returns-3
-returns-3 c = sym (low-by-kind _ ∙ ap lowKind (sym c.before.before.of.ensures ∙ c.enum-told3.given.1))
+returns-3 c = sym (low_by-kind _ ∙ ap low_kind (sym c.before.before.of.ensures ∙ c.enum-told3.given.1))
 
 pub is-low-spec : {M : Type 1} → statement M
 is-low-spec =

@@ -6,8 +6,8 @@ use mathlib.Core.Bool.{Bool, true, false, not, beq}
 use native.Mathlib.Omega.{arith}
 use borrow.Author.Rules.{rules}
 use lib.ListN.{length, drop}
-use Rattle.units.specs.Surrogates.{pairedFrom, paired}
-use Rattle.units.proofs.Pairing.{turn_at, turn-off-at, turn_end}
+use Rattle.units.specs.Surrogates.{paired_from, paired}
+use Rattle.units.proofs.Pairing.{turn_at, turn_off-at, turn_end}
 use Rattle.units.proofs.is_whole.Statement.{statement}
 use Rattle.units.proofs.is_whole.Tie as tie
 
@@ -25,7 +25,7 @@ agree false true e = sym e
 agree false false e = refl
 
 abbrev invariant-loop : tie.invariant-loop
-invariant-loop units held₀ i₀ held i = (i ≤ length units) × (pairedFrom held (drop i units) ≡ paired units)
+invariant-loop units held₀ i₀ held i = (i ≤ length units) × (paired_from held (drop i units) ≡ paired units)
 
 abbrev decreases-loop : tie.decreases-loop
 decreases-loop units held₀ i₀ held i = length units - i
@@ -45,7 +45,7 @@ is-low-requires c κs = search rules
 returns : tie.Need-returns invariant-loop decreases-loop
 returns c =
     let at-loop = c.before.before.before.before in
-    sym (sym at-loop.loop.invariant.1 ∙ turn-off-at _ _ _ c.before.before.before.loop-test.true (sym c.before.is-low.ensures ∙ differ _ _ c.if1.true))
+    sym (sym at-loop.loop.invariant.1 ∙ turn_off-at _ _ _ c.before.before.before.loop-test.true (sym c.before.is-low.ensures ∙ differ _ _ c.if1.true))
 
 mul-is-high : tie.Need-overflow-mul-is-high invariant-loop decreases-loop
 mul-is-high c = omega arith
@@ -68,7 +68,7 @@ loop-again c =
     let low = sym c.before.before.before.is-low.ensures ∙ agree _ _ c.before.before.if1.false in
     let text = at-loop.before.before.args.units.now in (
       omega arith,
-      ap (λ (b : Bool). pairedFrom b (drop (at-loop.loop.i + 1) text)) c.is-high.ensures ∙ sym (turn_at _ _ _ c.before.before.before.before.before.loop-test.true low) ∙ at-loop.loop.invariant.1,
+      ap (λ (b : Bool). paired_from b (drop (at-loop.loop.i + 1) text)) c.is-high.ensures ∙ sym (turn_at _ _ _ c.before.before.before.before.before.loop-test.true low) ∙ at-loop.loop.invariant.1,
     )
 
 returns-2 : tie.Need-returns-2 invariant-loop decreases-loop

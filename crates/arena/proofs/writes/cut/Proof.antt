@@ -1,5 +1,5 @@
--- `arena::writes::cut` meets its contract: the two stores are those of `cutMem`. Assumes nothing.
-use Rattle.arena.specs.Writes.{cutMem}
+-- `arena::writes::cut` meets its contract: the two stores are those of `cut_mem`. Assumes nothing.
+use Rattle.arena.specs.Writes.{cut_mem}
 use mathlib.Core.Path.{refl}
 use borrow.Author.Rules.{rules}
 use Rattle.arena.proofs.writes.cut.Statement.{statement}
@@ -51,7 +51,7 @@ same_length : tie.Need-same-length
 same_length c = search rules
 
 returns : tie.Need-returns
-unfolding cutMem
+unfolding cut_mem
 returns c = rw (c.grown.ensures, c.before.pack2.ensures, c.before.before.pack.ensures, c.before.before.before.right-half.ensures, c.before.before.before.before.left-half.ensures, c.before.before.before.before.before.unpack.ensures) (refl, refl)
 
 pub cut_spec : {M : Type 1} → statement M

@@ -1,4 +1,4 @@
--- `arena::writes::delete` meets its contract: the store is that of `killMem`. Assumes nothing.
+-- `arena::writes::delete` meets its contract: the store is that of `kill_mem`. Assumes nothing.
 use borrow.Author.Rules.{rules}
 use Rattle.arena.proofs.writes.delete.Statement.{statement}
 use Rattle.arena.proofs.writes.delete.Tie as tie

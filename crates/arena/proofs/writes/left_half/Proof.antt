@@ -1,5 +1,5 @@
 -- `arena::writes::left_half` meets its contract. Assumes nothing.
-use Rattle.arena.specs.Writes.{leftText}
+use Rattle.arena.specs.Writes.{left_text}
 use mathlib.Core.Path.{sym, ap}
 use borrow.Author.Rules.{rules}
 use Rattle.arena.proofs.writes.left_half.Statement.{statement}
@@ -15,7 +15,7 @@ enum-told-2 : tie.Need-enum-told-2
 enum-told-2 c = search rules
 
 returns : tie.Need-returns
-returns c = ap (leftText _) (sym c.before.c.given.1)
+returns c = ap (left_text _) (sym c.before.c.given.1)
 
 returns-2 : tie.Need-returns-2
 returns-2 c = search rules

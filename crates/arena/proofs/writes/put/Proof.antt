@@ -1,11 +1,11 @@
 -- `arena::writes::put` meets its contract. Assumes nothing.
-use Rattle.arena.proofs.Steps.{put-carried, put-asks}
+use Rattle.arena.proofs.Steps.{put-carried, put_asks}
 use borrow.Author.Rules.{rules}
 use Rattle.arena.proofs.writes.put.Statement.{statement}
 use Rattle.arena.proofs.writes.put.Tie as tie
 
 put-after-requires : tie.Need-put-after-requires
-put-after-requires c κs = put-asks c.before.before.requires
+put-after-requires c κs = put_asks c.before.before.requires
 
 passed-requires : tie.Need-passed-requires
 passed-requires c κs = search rules

@@ -1,5 +1,5 @@
--- `arena::writes::put_after` meets its contract: the stores are those of `putMem`. Assumes nothing.
-use Rattle.arena.specs.Writes.{frontMem, afterMem}
+-- `arena::writes::put_after` meets its contract: the stores are those of `put_mem`. Assumes nothing.
+use Rattle.arena.specs.Writes.{front_mem, after_mem}
 use borrow.Author.Tests.{ne_eqb}
 use lib.ListN.{length-set}
 use mathlib.Core.Path.{refl}
@@ -30,7 +30,7 @@ same_length : tie.Need-same-length
 same_length c = search rules
 
 returns : tie.Need-returns
-unfolding frontMem
+unfolding front_mem
 returns c = rw (c.grown.ensures, c.before.if1.true, c.before.before.pack.ensures) (refl, refl)
 
 mul-relink : tie.Need-overflow-mul-relink
@@ -68,7 +68,7 @@ same-length-2 : tie.Need-same-length-2
 same-length-2 c = search rules
 
 returns-2 : tie.Need-returns-2
-unfolding afterMem
+unfolding after_mem
 returns-2 c = rw (c.grown2.ensures, ne_eqb _ _ c.before.before.before.if1.false, c.before.relink.ensures, c.before.before.before.before.pack.ensures) (refl, refl)
 
 pub put-after-spec : {M : Type 1} → statement M

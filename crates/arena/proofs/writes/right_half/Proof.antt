@@ -1,5 +1,5 @@
 -- `arena::writes::right_half` meets its contract. Assumes nothing.
-use Rattle.arena.specs.Writes.{rightText}
+use Rattle.arena.specs.Writes.{right_text}
 use mathlib.Core.Path.{sym, ap}
 use native.Mathlib.Omega.{arith}
 use borrow.Author.Rules.{rules}
@@ -22,7 +22,7 @@ enum-told-2 : tie.Need-enum-told-2
 enum-told-2 c = search rules
 
 returns : tie.Need-returns
-returns c = ap (rightText _) (sym c.before.c.given.1)
+returns c = ap (right_text _) (sym c.before.c.given.1)
 
 returns-2 : tie.Need-returns-2
 returns-2 c = search rules

@@ -1,11 +1,11 @@
 -- `arena::writes::split` meets its contract. Assumes nothing.
-use Rattle.arena.proofs.Steps.{split-carried, cut-asks}
+use Rattle.arena.proofs.Steps.{split-carried, cut_asks}
 use borrow.Author.Rules.{rules}
 use Rattle.arena.proofs.writes.split.Statement.{statement}
 use Rattle.arena.proofs.writes.split.Tie as tie
 
 cut-requires : tie.Need-cut-requires
-cut-requires c κs = cut-asks c.before.before.requires
+cut-requires c κs = cut_asks c.before.before.requires
 
 add-t9 : tie.Need-overflow-add-t9
 add-t9 c = search rules

@@ -4,7 +4,7 @@ use Rattle.assembling.proofs.marks.pending_of.Statement.{statement}
 use Rattle.assembling.proofs.marks.pending_of.Tie as tie
 use borrow.Author.Tests.{eq-eqb, ne_eqb, not-true, not-false}
 use mathlib.Core.Path.{sym, ◌∙◌}
-use Rattle.assembling.proofs.Pendings.{kept-has, kept-lacks}
+use Rattle.assembling.proofs.Pendings.{kept-has, kept_lacks}
 
 get-requires : tie.Need-get-requires
 get-requires c κs = search rules
@@ -37,7 +37,7 @@ returns-3 c =
 
 returns-4 : tie.Need-returns-4
 returns-4 c =
-    rw (not-false c.before.before.before.before.before.before.before.before.args.s.was c.before.before.before.if1.false, c.before.before.if3.true) (kept-lacks _ _ _ _ _ (sym c.before.has.ensures ∙ c.if4.false))
+    rw (not-false c.before.before.before.before.before.before.before.before.args.s.was c.before.before.before.if1.false, c.before.before.if3.true) (kept_lacks _ _ _ _ _ (sym c.before.has.ensures ∙ c.if4.false))
 
 get-requires-4 : tie.Need-get-requires-4
 get-requires-4 c κs = search rules

@@ -4,7 +4,7 @@ use native.Mathlib.Omega.{arith}
 use borrow.Author.Rules.{rules}
 use lib.Count.{count_trailing_zeros}
 use Rattle.sets.specs.Sets.{is, empty}
-use Rattle.attrs.specs.Packed.{envOf, packed, says, changed}
+use Rattle.attrs.specs.Packed.{env_of, packed, says, changed}
 use Rattle.attrs.proofs.Says.{whole-packed, onto-packed}
 use Rattle.attrs.proofs.Slots.{Turn, turn}
 use Rattle.attrs.proofs.Changes.{changed-lacks, changed-keeps, changed-puts}
@@ -13,7 +13,7 @@ use Rattle.attrs.proofs.Attrs.changed.Statement.{statement}
 use Rattle.attrs.proofs.Attrs.changed.Tie as tie
 
 abbrev invariant-loop : tie.invariant-loop
-invariant-loop self force from out₀ left₀ out left = Walk self.mask left (packed empty) (changed (says self) (envOf force) (envOf from)) out
+invariant-loop self force from out₀ left₀ out left = Walk self.mask left (packed empty) (changed (says self) (env_of force) (env_of from)) out
 
 abbrev decreases-loop : tie.decreases-loop
 decreases-loop self force from out₀ left₀ out left = left
@@ -24,7 +24,7 @@ empty-requires c κs = search rules
 loop-holds : tie.Need-loop-init invariant-loop decreases-loop
 loop-holds c =
     let a = c.before.args in
-    rw c.empty.ensures (begins _ _ _ (whole-packed empty) (search rules) (changed-lacks a.self (envOf a.force) (envOf a.from)))
+    rw c.empty.ensures (begins _ _ _ (whole-packed empty) (search rules) (changed-lacks a.self (env_of a.force) (env_of a.from)))
 
 rest-requires : tie.Need-rest-requires invariant-loop decreases-loop
 rest-requires c κs = search rules
@@ -52,7 +52,7 @@ loop-again : tie.Need-loop-preserved invariant-loop decreases-loop
 loop-again c =
     let a = c.before.before.before.before.before.before.before.before.before.args in
     let x = met c.before.before.before.before.before in
-    let there = changed-puts a.self (envOf a.force) (envOf a.from) _ x.lt x.there (λ e. omega arith) in
+    let there = changed-puts a.self (env_of a.force) (env_of a.from) _ x.lt x.there (λ e. omega arith) in
     visit-put c.before.before.before.before.before.before.before.loop.invariant x c.put.ensures (there ∙ ap is (sym c.before.get3.ensures.is))
 
 loop-less-2 : tie.Need-loop-smaller-2 invariant-loop decreases-loop
@@ -62,7 +62,7 @@ loop-again-2 : tie.Need-loop-preserved-2 invariant-loop decreases-loop
 loop-again-2 c =
     let a = c.before.before.before.before.before.before.before.args in
     visit-keep c.before.before.before.before.before.loop.invariant (met c.before.before.before)
-    (changed-keeps a.self (envOf a.force) (envOf a.from) _ (omega arith))
+    (changed-keeps a.self (env_of a.force) (env_of a.from) _ (omega arith))
 
 returns : tie.Need-returns invariant-loop decreases-loop
 returns c = ends c.before.loop.invariant c.loop-test.false ∙ onto-packed _ empty

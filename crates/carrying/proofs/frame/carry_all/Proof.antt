@@ -2,7 +2,7 @@
 use mathlib.Core.Path.{refl}
 use Rattle.changes.proofs.Works.{load_is, granted-is}
 use Rattle.carrying.specs.Turns.{laid, given}
-use Rattle.carrying.proofs.Frames.{stands-first, tried-all, tried-not}
+use Rattle.carrying.proofs.Frames.{stands-first, tried-all, tried_not}
 use borrow.Author.Rules.{rules}
 use Rattle.carrying.proofs.frame.carry_all.Statement.{statement}
 use Rattle.carrying.proofs.frame.carry_all.Tie as tie
@@ -37,7 +37,7 @@ returns c =
     let a = loaded.before.before.before.before in
     let load = load_is _ _ _ a.requires.0 refl _ loaded.copy.ensures in
     let tried = tried-all load.0 from.start.ensures (laid a.args.h.units (given a.args.ops)) load.1 done.carry-out.ensures in
-    tried-not tried c.if1.true _ _ _
+    tried_not tried c.if1.true _ _ _
 
 slice-aggregate-copy-2 : tie.Need-slice-aggregate-copy-2
 slice-aggregate-copy-2 c = search rules

@@ -4,17 +4,17 @@ use native.Mathlib.Omega.{arith}
 use mathlib.Core.Path.{◌≡◌, sym, ap, ◌∙◌}
 use mathlib.Core.List.{◌∷◌}
 use lib.ListN.{length, get_or, drop}
-use Rattle.rules.specs.Delta.{carryOut}
+use Rattle.rules.specs.Delta.{carry_out}
 use Rattle.arena.specs.Places.{placed}
 use Rattle.carrying.specs.Turns.{laid, given}
-use Rattle.carrying.proofs.Carrying.{length-mapped, unread, Under, under-start, under_next, under-long, under-done, next-room, given-length, given-at}
+use Rattle.carrying.proofs.Carrying.{length_mapped, unread, Under, under-start, under_next, under-long, under-done, next-room, given-length, given-at}
 use borrow.Author.Rules.{rules}
 use Rattle.carrying.proofs.turns.carry_out.Statement.{statement}
 use Rattle.carrying.proofs.turns.carry_out.Tie as tie
 
 abbrev invariant-loop : tie.invariant-loop
 invariant-loop work₀ used delta count at₀ next₀ i₀ work at next i =
-    Under (given delta) (carryOut (laid used (given delta)) (placed at₀.head work₀ at₀.place)) i next at.head work at.place
+    Under (given delta) (carry_out (laid used (given delta)) (placed at₀.head work₀ at₀.place)) i next at.head work at.place
 
 abbrev decreases-loop : tie.decreases-loop
 decreases-loop work₀ used delta count at₀ next₀ i₀ work at next i = count - i
@@ -26,7 +26,7 @@ loop-holds : tie.Need-loop-init invariant-loop decreases-loop
 loop-holds c = let start = c.before in under-start _ _ _ _ _ start.requires.0 start.requires.1 start.requires.3
 
 ops-long : (s : tie.Start invariant-loop decreases-loop) → length s.args.t4.ops ≡ 256
-ops-long s = search (rules, length-mapped)
+ops-long s = search (rules, length_mapped)
 
 -- the operation that is next
 next-is : (c : tie.In-loop invariant-loop decreases-loop) → (

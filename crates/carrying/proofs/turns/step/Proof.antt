@@ -1,6 +1,6 @@
 -- `carrying::turns::step` meets its contract: each operation by its edit. Assumes nothing.
 use native.Mathlib.Omega.{arith}
-use Rattle.carrying.specs.Turns.{ruleOf}
+use Rattle.carrying.specs.Turns.{rule_of}
 use Rattle.carrying.proofs.Carrying.{by-op, op_room}
 use borrow.Author.Rules.{rules}
 use Rattle.carrying.proofs.turns.step.Statement.{statement}
@@ -35,7 +35,7 @@ same_length : tie.Need-same-length
 same_length c = search rules
 
 returns : tie.Need-returns
-unfolding ruleOf
+unfolding rule_of
 returns c =
     let done = c.before.before in
     by-op _ _ done.before.before.before.op.given.1 done.insert-part.ensures
@@ -44,7 +44,7 @@ same-length-2 : tie.Need-same-length-2
 same-length-2 c = search rules
 
 returns-2 : tie.Need-returns-2
-unfolding ruleOf
+unfolding rule_of
 returns-2 c =
     let done = c.before.before in
     by-op _ _ done.before.before.before.op2.given.1 done.delete-here.ensures
@@ -53,7 +53,7 @@ same-length-3 : tie.Need-same-length-3
 same-length-3 c = search rules
 
 returns-3 : tie.Need-returns-3
-unfolding ruleOf
+unfolding rule_of
 returns-3 c =
     let done = c.before.before in
     by-op _ _ done.before.before.before.op3.given.1 done.insert-format.ensures

@@ -3,7 +3,7 @@ use native.Mathlib.Omega.{arith}
 use mathlib.Core.Path.{refl}
 use Rattle.attrs.specs.Packed.{says}
 use Rattle.changes.specs.Changes.{move_of}
-use Rattle.changes.proofs.Works.{load_is, worked-loaded, granted-not, granted-is}
+use Rattle.changes.proofs.Works.{load_is, worked_loaded, granted-not, granted-is}
 use borrow.Author.Rules.{rules}
 use Rattle.changes.proofs.frame.edit.Statement.{statement}
 use Rattle.changes.proofs.frame.edit.Tie as tie
@@ -31,7 +31,7 @@ returns c =
     let done = c.before.before.before in
     let loaded = done.before.before.before in
     let a = loaded.before.before.before.before in
-    let work = worked-loaded a.args.index (move_of a.args.change (says a.args.attrs)) a.args.h.items (load_is _ _ _ a.requires.0 refl _ loaded.copy.ensures).1 done.change-by-index.ensures in
+    let work = worked_loaded a.args.index (move_of a.args.change (says a.args.attrs)) a.args.h.items (load_is _ _ _ a.requires.0 refl _ loaded.copy.ensures).1 done.change-by-index.ensures in
     granted-not _ _ _ _ _ work _ c.if1.true
 
 slice-aggregate-copy-2 : tie.Need-slice-aggregate-copy-2
@@ -53,7 +53,7 @@ returns-2 c =
     let done = kept.before.before.before in
     let loaded = done.before.before.before in
     let a = loaded.before.before.before.before in
-    let work = worked-loaded a.args.index (move_of a.args.change (says a.args.attrs)) a.args.h.items (load_is _ _ _ a.requires.0 refl _ loaded.copy.ensures).1 done.change-by-index.ensures in
+    let work = worked_loaded a.args.index (move_of a.args.change (says a.args.attrs)) a.args.h.items (load_is _ _ _ a.requires.0 refl _ loaded.copy.ensures).1 done.change-by-index.ensures in
     granted-is _ _ _ _ _ work _ kept.if1.false a.requires.0.words _ c.grown.ensures _ back.copy2.ensures
 
 pub edit-spec : {M : Type 1} → statement M

@@ -7,19 +7,19 @@ use mathlib.Core.List.{List, ◌∷◌}
 use native.Mathlib.Omega.{arith}
 use lib.ListN.{length}
 use borrow.Author.Rules.{rules}
-use Rattle.attrs.specs.Packed.{envOf}
+use Rattle.attrs.specs.Packed.{env_of}
 use Rattle.rules.specs.Reading.{Glyph}
-use Rattle.rules.specs.Runs.{runsFrom}
-use Rattle.cursors.specs.Records.{recordsOf, runsBy}
+use Rattle.rules.specs.Runs.{runs_from}
+use Rattle.cursors.specs.Records.{records_of, runs_by}
 use Rattle.cursors.specs.Cursors.{rest, Stands}
 use Rattle.cursors.proofs.Spots.{Stepped, steps}
-use Rattle.cursors.proofs.Opens.{Open, opened-start, open-out, open-stop, open_turn}
+use Rattle.cursors.proofs.Opens.{Open, opened-start, open_out, open-stop, open_turn}
 
 abbrev invariant-loop : tie.invariant-loop
 invariant-loop items joined run s₀ s =
     Stands items s
     × ((a : ℕ) (g : Glyph) (gs : List Glyph) → a + length (g ∷ gs) ≡ s₀.passed
-    → Open joined items run a s (recordsOf a (runsBy joined (runsFrom (g ∷ gs) (envOf s₀.force) (rest items s₀)))))
+    → Open joined items run a s (records_of a (runs_by joined (runs_from (g ∷ gs) (env_of s₀.force) (rest items s₀)))))
     × (s.todo ≤ s₀.todo)
     × (s₀.passed ≤ s.passed)
 
@@ -36,7 +36,7 @@ loop-holds c =
             others = gs;
             long = long;
             kept = λ _. refl;
-            same = ap (recordsOf a) (opened-start c.before.before.args.joined g gs (envOf from.force) (rest c.before.before.args.items.now from));
+            same = ap (records_of a) (opened-start c.before.before.args.joined g gs (env_of from.force) (rest c.before.before.args.items.now from));
           }),
       omega arith,
       omega arith,
@@ -85,10 +85,10 @@ loop-again c =
     let inside = c.before.before.before.before.before.before.before in
     let at-loop = inside.before.before in
     let unpacked = c.before.before.before.before.unpack.ensures in
-    let goes_on = rw unpacked at (sym c.before.before.ends.ensures ∙ c.before.if2.false) in
+    let goes_on_lem = rw unpacked at (sym c.before.before.ends.ensures ∙ c.before.if2.false) in
     rw (c.past.ensures, unpacked) (
       (stepped inside).stands,
-      (λ a g gs long. open_turn _ _ _ a _ _ at-loop.before.before.before.requires.plain at-loop.loop.invariant.0 inside.if1.true goes_on (at-loop.loop.invariant.1 a g gs long)),
+      (λ a g gs long. open_turn _ _ _ a _ _ at-loop.before.before.before.requires.plain at-loop.loop.invariant.0 inside.if1.true goes_on_lem (at-loop.loop.invariant.1 a g gs long)),
       omega (arith, at-loop.loop.invariant.2),
       omega (arith, at-loop.loop.invariant.3),
     )
@@ -98,7 +98,7 @@ returns-2 c =
     let at-loop = c.before.before in
     record {
       stands = at-loop.loop.invariant.0;
-      run = λ a g gs long. open-out _ _ _ a _ _ at-loop.before.before.before.requires.plain (omega (arith, c.if1.false)) (at-loop.loop.invariant.1 a g gs long);
+      run = λ a g gs long. open_out _ _ _ a _ _ at-loop.before.before.before.requires.plain (omega (arith, c.if1.false)) (at-loop.loop.invariant.1 a g gs long);
       fewer = at-loop.loop.invariant.2;
       on = at-loop.loop.invariant.3;
     }

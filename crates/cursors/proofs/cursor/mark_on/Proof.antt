@@ -1,5 +1,5 @@
 -- `cursors::cursor::mark_on` meets its contract. Assumes nothing.
-use Rattle.cursors.specs.Cursors.{markOn}
+use Rattle.cursors.specs.Cursors.{mark_on}
 use borrow.Author.Rules.{rules}
 use Rattle.cursors.proofs.cursor.mark_on.Statement.{statement}
 use Rattle.cursors.proofs.cursor.mark_on.Tie as tie
@@ -17,15 +17,15 @@ update-current-attributes-requires : tie.Need-update-current-attributes-requires
 update-current-attributes-requires c κs = search rules
 
 returns : tie.Need-returns
-unfolding markOn
+unfolding mark_on
 returns c = cc
 
 returns-2 : tie.Need-returns-2
-unfolding markOn
+unfolding mark_on
 returns-2 c = cc
 
 returns-3 : tie.Need-returns-3
-unfolding markOn
+unfolding mark_on
 returns-3 c = cc
 
 pub mark-on-spec : {M : Type 1} → statement M

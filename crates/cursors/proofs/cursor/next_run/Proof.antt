@@ -2,7 +2,7 @@
 use Prim.Native.Nat.{◌<◌}
 use native.Mathlib.Omega.{arith}
 use mathlib.Core.Path.{ap}
-use Rattle.layout.specs.Word.{whatOf}
+use Rattle.layout.specs.Word.{what_of}
 use Rattle.cursors.specs.declared.cursor.Spot.{Spot}
 use Rattle.cursors.proofs.Spots.{Stepped, steps, next-none, next-embed, next-text}
 use borrow.Author.Rules.{rules}
@@ -50,7 +50,7 @@ returns-2 : tie.Need-returns-2
 returns-2 c =
     let inside = c.before.before.before.before.before.before.before.before.before in
     let unpacked = c.before.before.before.before.before.before.unpack.ensures in
-    let is = rw unpacked at (ap whatOf c.before.before.content.given.1) in
+    let is = rw unpacked at (ap what_of c.before.before.content.given.1) in
     rw (c.embed-run.ensures, c.before.before.before.before.past.ensures, unpacked) (next-embed _ _ _ _ inside.before.before.skip.ensures (some inside) _ is)
 
 gather-requires : tie.Need-gather-requires

@@ -1,11 +1,11 @@
 -- `cursors::cursor::passes` meets its contract. Assumes nothing.
-use Rattle.cursors.specs.Cursors.{passesOf}
+use Rattle.cursors.specs.Cursors.{passes_of}
 use borrow.Author.Rules.{rules}
 use Rattle.cursors.proofs.cursor.passes.Statement.{statement}
 use Rattle.cursors.proofs.cursor.passes.Tie as tie
 
 returns : tie.Need-returns
-unfolding passesOf
+unfolding passes_of
 returns c = rw c.if1.true
 
 enum_told : tie.Need-enum-told
@@ -18,15 +18,15 @@ enum-told-3 : tie.Need-enum-told-3
 enum-told-3 c = search rules
 
 returns-2 : tie.Need-returns-2
-unfolding passesOf
+unfolding passes_of
 returns-2 c = cc
 
 returns-3 : tie.Need-returns-3
-unfolding passesOf
+unfolding passes_of
 returns-3 c = cc
 
 returns-4 : tie.Need-returns-4
-unfolding passesOf
+unfolding passes_of
 returns-4 c = cc
 
 pub passes-spec : {M : Type 1} → statement M

@@ -2,7 +2,7 @@
 use Rattle.cursors.proofs.Forces.{mark-told}
 use borrow.Author.Rules.{rules}
 use mathlib.Core.Bool.{true, false}
-use Rattle.layout.specs.Word.{whatOf}
+use Rattle.layout.specs.Word.{what_of}
 use Rattle.cursors.proofs.cursor.past.Statement.{statement}
 use Rattle.cursors.proofs.cursor.past.Tie as tie
 
@@ -26,14 +26,14 @@ returns c =
     let told = c.before.before.before in
     let given = told.before.before.before.before.args in
     let yes = rw told.is-live-mark.ensures at c.before.before.if1.true in
-    rw (c.mark_on.ensures, told.before.before.shown-len.ensures, mark-told given.s.force given.it.dead (whatOf given.it.content) true yes)
+    rw (c.mark_on.ensures, told.before.before.shown-len.ensures, mark-told given.s.force given.it.dead (what_of given.it.content) true yes)
 
 returns-2 : tie.Need-returns-2
 returns-2 c =
     let told = c.before in
     let given = told.before.before.before.before.args in
     let no = rw told.is-live-mark.ensures at c.if1.false in
-    rw (told.before.before.shown-len.ensures, mark-told given.s.force given.it.dead (whatOf given.it.content) false no)
+    rw (told.before.before.shown-len.ensures, mark-told given.s.force given.it.dead (what_of given.it.content) false no)
 
 pub past-spec : {M : Type 1} → statement M
 past-spec =

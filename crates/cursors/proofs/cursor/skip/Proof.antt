@@ -7,11 +7,11 @@ use mathlib.Core.Bool.{Bool}
 use native.Mathlib.Omega.{arith}
 use borrow.Author.Rules.{rules}
 use borrow.Author.Tests.{not-true, not-false}
-use Rattle.cursors.specs.Cursors.{recordsAt, Stands}
-use Rattle.cursors.proofs.Spots.{Stepped, steps, skip-turn}
+use Rattle.cursors.specs.Cursors.{records_at, Stands}
+use Rattle.cursors.proofs.Spots.{Stepped, steps, skip_turn}
 
 abbrev invariant-loop : tie.invariant-loop
-invariant-loop items s₀ s = Stands items s × ((j : Bool) → recordsAt j items s₀ ≡ recordsAt j items s) × (s.todo ≤ s₀.todo)
+invariant-loop items s₀ s = Stands items s × ((j : Bool) → records_at j items s₀ ≡ records_at j items s) × (s.todo ≤ s₀.todo)
 
 abbrev decreases-loop : tie.decreases-loop
 decreases-loop items s₀ s = s.todo
@@ -62,7 +62,7 @@ loop-again c =
     let passes = rw unpacked at (sym c.before.before.passes.ensures ∙ not-false _ c.before.if2.false) in
     rw (c.past.ensures, unpacked) (
       (stepped inside).stands,
-      (λ j. at-loop.loop.invariant.1 j ∙ skip-turn j _ _ at-loop.loop.invariant.0 inside.if1.true passes),
+      (λ j. at-loop.loop.invariant.1 j ∙ skip_turn j _ _ at-loop.loop.invariant.0 inside.if1.true passes),
       omega (arith, at-loop.loop.invariant.2),
     )
 

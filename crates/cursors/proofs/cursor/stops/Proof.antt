@@ -1,5 +1,5 @@
 -- `cursors::cursor::stops` meets its contract. Assumes nothing.
-use Rattle.cursors.specs.Cursors.{stopsAt}
+use Rattle.cursors.specs.Cursors.{stops_at}
 use borrow.Author.Rules.{rules}
 use Rattle.cursors.proofs.cursor.stops.Statement.{statement}
 use Rattle.cursors.proofs.cursor.stops.Tie as tie
@@ -14,15 +14,15 @@ enum-told-3 : tie.Need-enum-told-3
 enum-told-3 c = search rules
 
 returns : tie.Need-returns
-unfolding stopsAt
+unfolding stops_at
 returns c = cc
 
 returns-2 : tie.Need-returns-2
-unfolding stopsAt
+unfolding stops_at
 returns-2 c = cc
 
 returns-3 : tie.Need-returns-3
-unfolding stopsAt
+unfolding stops_at
 returns-3 c = cc
 
 pub stops-spec : {M : Type 1} → statement M

@@ -5,18 +5,18 @@ use mathlib.Core.Path.{◌≡◌, sym, ap, ◌∙◌}
 use mathlib.Core.List.{◌∷◌}
 use lib.ListN.{length, get_or, drop}
 use borrow.Author.Tests.{eq-eqb, ne_eqb}
-use Rattle.rules.specs.Calls.{newUnits}
+use Rattle.rules.specs.Calls.{new_units}
 use Rattle.ops.specs.Ops.{ops_of}
 use Rattle.changes.specs.Appends.{appended}
 use Rattle.carrying.specs.Turns.{given}
-use Rattle.carrying.proofs.Carrying.{length-mapped, unread, given-length, given-at}
+use Rattle.carrying.proofs.Carrying.{length_mapped, unread, given-length, given-at}
 use Rattle.deltas.proofs.Appending.{Putting, putting-start, put-part, put-room, putting-next, putting-done}
 use borrow.Author.Rules.{rules}
 use Rattle.deltas.proofs.append.append_all.Statement.{statement}
 use Rattle.deltas.proofs.append.append_all.Tie as tie
 
 abbrev invariant-loop : tie.invariant-loop
-invariant-loop refusal units₀ used chunk delta count at₀ i₀ units at i = Putting chunk (given delta) (appended used (newUnits (ops_of chunk delta)) units₀) i at units
+invariant-loop refusal units₀ used chunk delta count at₀ i₀ units at i = Putting chunk (given delta) (appended used (new_units (ops_of chunk delta)) units₀) i at units
 
 abbrev decreases-loop : tie.decreases-loop
 decreases-loop refusal units₀ used chunk delta count at₀ i₀ units at i = count - i
@@ -32,7 +32,7 @@ unfolding ops_of
 loop-holds c = let s = c.before.before.before in putting-start _ _ _ _ s.requires.0 s.requires.3 s.requires.2
 
 ops-long : (s : tie.Start invariant-loop decreases-loop) → length s.args.t4.ops ≡ 256
-ops-long s = search (rules, length-mapped)
+ops-long s = search (rules, length_mapped)
 
 -- the operation that is next
 next-is : (c : tie.In-loop invariant-loop decreases-loop) → (

@@ -8,7 +8,7 @@ use Rattle.ops.specs.declared.delta.Inserted.{Inserted}
 use Rattle.ops.specs.declared.delta.Inserted.TheVariants.{Text}
 use Rattle.ops.specs.declared.delta.Op.TheVariants.{Insert}
 use Rattle.changes.specs.Appends.{appended}
-use Rattle.deltas.proofs.Refusals.{part_in, op-in}
+use Rattle.deltas.proofs.Refusals.{part_in_lem, op-in}
 use Rattle.deltas.proofs.Laid.{units-long}
 use Rattle.deltas.proofs.Appending.{part-is, nothing_put}
 use borrow.Author.Rules.{rules}
@@ -47,7 +47,7 @@ part-append-end : tie.Need-slice-bounds-append-end
 part-append-end c =
     let told = c.before.before in
     let op = told.before.before.before in
-    part_in _ _ _ told.part.given.1 (op-in _ op.op.given.1 op.before.before.before.before.requires.1)
+    part_in_lem _ _ _ told.part.given.1 (op-in _ op.op.given.1 op.before.before.before.before.requires.1)
 
 append-requires : tie.Need-append-requires
 append-requires c κs =

@@ -3,9 +3,9 @@ use mathlib.Core.Path.{◌≡◌, sym, ◌∙◌}
 use mathlib.Core.Bool.{true, false}
 use lib.ListN.{length}
 use borrow.Author.Tests.{not-true, not-false}
-use Rattle.layout.specs.Memory.{soundOf}
+use Rattle.layout.specs.Memory.{sound_of}
 use Rattle.soundness.proofs.Measures.{sound-is, len_is}
-use Rattle.deltas.specs.Checks.{manyOf}
+use Rattle.deltas.specs.Checks.{many_of}
 use Rattle.deltas.proofs.Applying.{carried-unsound, carried-many, carried-short, carried-ruled}
 use borrow.Author.Rules.{rules}
 use Rattle.deltas.proofs.apply.apply_delta.Statement.{statement}
@@ -16,13 +16,13 @@ first c = c.before.before.before.before.before.before.before.before
 
 sound-here : (c : tie.Else1) → (
     let a = (first c.before.before).args in
-    soundOf a.h a.items.now a.units.now ≡ true
+    sound_of a.h a.items.now a.units.now ≡ true
     )
 sound-here c = sym (sound-is _ _ _ _ c.before.before.measure.ensures) ∙ not-false _ c.if1.false
 
 read_here : (c : tie.Else2) → (
     let a = (first c.before.before.before.before).args in
-    manyOf (length a.chunk.now) a.delta ≡ false
+    many_of (length a.chunk.now) a.delta ≡ false
     )
 read_here c = sym c.before.many.ensures ∙ c.if2.false
 

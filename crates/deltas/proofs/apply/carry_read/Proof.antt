@@ -4,7 +4,7 @@ use native.Mathlib.Omega.{arith}
 use mathlib.Core.Path.{refl, sym, ap, ◌∙◌}
 use mathlib.Core.List.{◌++◌}
 use lib.ListN.{length, take}
-use Rattle.rules.specs.Calls.{Call, applyDelta, newUnits}
+use Rattle.rules.specs.Calls.{Call, apply_delta, new_units}
 use Rattle.layout.proofs.Soundness.{sound-parts}
 use Rattle.changes.proofs.Sounds.{sound-loads}
 use Rattle.changes.proofs.Calls.{carry-faulty, carry-crowded, carry-granted}
@@ -21,7 +21,7 @@ first c = c.before.before.before.before.before.before
 
 -- the call that is asked for
 abbrev asked : tie.Start → Call
-asked s = applyDelta (ops_of s.args.chunk.now s.args.delta)
+asked s = apply_delta (ops_of s.args.chunk.now s.args.delta)
 
 -- it has room for its units
 fits : (c : tie.Else2) → (
@@ -65,7 +65,7 @@ returns-2 c =
     let s = first clear.before in
     let a = s.args in
     let parts = (many-none _ _ s.pre.2).1 in
-    let over : 16384 < length (take a.h.units a.units.now ++ newUnits (ops_of a.chunk.now a.delta)) = omega (arith, c.if2.true, c.before.total.ensures, delta-long a.chunk.now a.delta _ _ _ s.pre.0 parts) in
+    let over : 16384 < length (take a.h.units a.units.now ++ new_units (ops_of a.chunk.now a.delta)) = omega (arith, c.if2.true, c.before.total.ensures, delta-long a.chunk.now a.delta _ _ _ s.pre.0 parts) in
     carry-crowded (asked s) _ _ _ s.pre.0 _ refl _ clear.before.delta-fault.ensures clear.if1.false over
 
 cast-carry-all : tie.Need-overflow-cast-carry-all

@@ -6,7 +6,7 @@ use mathlib.Core.Bool.{true, false}
 use mathlib.Core.List.{◌∷◌}
 use lib.ListN.{length, get_or, drop}
 use Rattle.carrying.specs.Turns.{given}
-use Rattle.carrying.proofs.Carrying.{length-mapped, unread, given-length, given-at}
+use Rattle.carrying.proofs.Carrying.{length_mapped, unread, given-length, given-at}
 use Rattle.deltas.proofs.Reading.{NoneYet, past-here, past-later, past-none, many-count, many-parts}
 use borrow.Author.Rules.{rules}
 use Rattle.deltas.proofs.checks.many.Statement.{statement}
@@ -19,7 +19,7 @@ abbrev decreases-loop : tie.decreases-loop
 decreases-loop n delta count i₀ i = count - i
 
 ops-long : (s : tie.Start invariant-loop decreases-loop) → length s.args.t2.ops ≡ 256
-ops-long s = search (rules, length-mapped)
+ops-long s = search (rules, length_mapped)
 
 -- the operation that is next
 next-is : (c : tie.In-loop invariant-loop decreases-loop) → (

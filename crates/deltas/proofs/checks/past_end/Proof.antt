@@ -2,7 +2,7 @@
 use mathlib.Core.Path.{sym, ap, ◌∙◌}
 use Rattle.ops.specs.declared.delta.Inserted.{Inserted}
 use Rattle.ops.specs.declared.delta.Op.TheVariants.{Insert}
-use Rattle.deltas.specs.Checks.{pastEnd}
+use Rattle.deltas.specs.Checks.{past_end}
 use borrow.Author.Rules.{rules}
 use Rattle.deltas.proofs.checks.past_end.Statement.{statement}
 use Rattle.deltas.proofs.checks.past_end.Tie as tie
@@ -35,7 +35,7 @@ returns : tie.Need-returns
 returns c =
     let told = c.before in
     let op = told.before.before.before in
-    sym (ap (pastEnd op.before.before.args.n) (op.op.given.1 ∙ ap (λ (x : Inserted). Insert x) told.part.given.1))
+    sym (ap (past_end op.before.before.args.n) (op.op.given.1 ∙ ap (λ (x : Inserted). Insert x) told.part.given.1))
 
 returns-2 : tie.Need-returns-2
 returns-2 c = search rules

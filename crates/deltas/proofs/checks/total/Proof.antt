@@ -5,8 +5,8 @@ use mathlib.Core.Path.{◌≡◌, ap, ◌∙◌}
 use mathlib.Core.List.{◌∷◌}
 use lib.ListN.{length, get_or, drop}
 use Rattle.carrying.specs.Turns.{bringing, given}
-use Rattle.carrying.proofs.Carrying.{length-mapped, unread, given-length, given-at}
-use Rattle.deltas.proofs.Reading.{total-next, total-done}
+use Rattle.carrying.proofs.Carrying.{length_mapped, unread, given-length, given-at}
+use Rattle.deltas.proofs.Reading.{total-next, total_done}
 use borrow.Author.Rules.{rules}
 use Rattle.deltas.proofs.checks.total.Statement.{statement}
 use Rattle.deltas.proofs.checks.total.Tie as tie
@@ -24,7 +24,7 @@ loop-holds : tie.Need-loop-init invariant-loop decreases-loop
 loop-holds c = (omega arith, omega arith)
 
 ops-long : (s : tie.Start invariant-loop decreases-loop) → length s.args.t1.ops ≡ 256
-ops-long s = search (rules, length-mapped)
+ops-long s = search (rules, length_mapped)
 
 -- the operation that is next
 next-is : (c : tie.In-loop invariant-loop decreases-loop) → (
@@ -68,7 +68,7 @@ loop-again c =
 returns : tie.Need-returns invariant-loop decreases-loop
 returns c =
     let s = c.before.before in
-    total-done (given s.args.t1) c.before.loop.i (omega (arith, given-length s.args.t1 (ops-long s) s.requires, c.loop-test.false)) _ c.before.loop.invariant.0
+    total_done (given s.args.t1) c.before.loop.i (omega (arith, given-length s.args.t1 (ops-long s) s.requires, c.loop-test.false)) _ c.before.loop.invariant.0
 
 pub total-spec : {M : Type 1} → statement M
 total-spec =

@@ -4,19 +4,19 @@ use native.Mathlib.Omega.{arith}
 use mathlib.Core.Path.{◌≡◌, ap, ◌∙◌}
 use mathlib.Core.List.{◌∷◌}
 use lib.ListN.{length, get_or, drop}
-use Rattle.rules.specs.Calls.{visibleUnits}
+use Rattle.rules.specs.Calls.{visible_units}
 use Rattle.layout.specs.Memory.{list_of}
 use Rattle.ops.specs.Ops.{ops_of}
 use Rattle.carrying.specs.Turns.{given}
-use Rattle.deltas.specs.Faults.{placeAfter}
-use Rattle.carrying.proofs.Carrying.{length-mapped, unread, given-length, given-at}
+use Rattle.deltas.specs.Faults.{place_after}
+use Rattle.carrying.proofs.Carrying.{length_mapped, unread, given-length, given-at}
 use Rattle.deltas.proofs.Refusals.{Faultless, faultless-start, faultless-next, faultless-end, next-part, refused-here}
 use borrow.Author.Rules.{rules}
 use Rattle.deltas.proofs.faults.fault.Statement.{statement}
 use Rattle.deltas.proofs.faults.fault.Tie as tie
 
 abbrev invariant-loop : tie.invariant-loop
-invariant-loop h items used len chunk delta count c₀ i₀ c i = Faultless (visibleUnits used (list_of h items)) chunk (given delta) i c
+invariant-loop h items used len chunk delta count c₀ i₀ c i = Faultless (visible_units used (list_of h items)) chunk (given delta) i c
 
 abbrev decreases-loop : tie.decreases-loop
 decreases-loop h items used len chunk delta count c₀ i₀ c i = count - i
@@ -28,7 +28,7 @@ loop-holds : tie.Need-loop-init invariant-loop decreases-loop
 loop-holds c = faultless-start _ _ _ c.before.before.before.requires.3
 
 ops-long : (s : tie.Start invariant-loop decreases-loop) → length s.args.t5.ops ≡ 256
-ops-long s = search (rules, length-mapped)
+ops-long s = search (rules, length_mapped)
 
 -- the operation that is next
 next-is : (c : tie.In-loop invariant-loop decreases-loop) → (
@@ -74,7 +74,7 @@ loop-again c =
     let t = e.before.before.before in
     let s = t.before.before.before.before.before in
     let d = get_or s.args.t5.ops t.before.loop.i unread in
-    let at = c.place_after.ensures ∙ ap (λ (k : ℕ). placeAfter k t.before.loop.c d.op) s.requires.1 in
+    let at = c.place_after.ensures ∙ ap (λ (k : ℕ). place_after k t.before.loop.c d.op) s.requires.1 in
     faultless-next t.before.loop.invariant d (next-is t) _ e.before.op-fault.ensures e.if1.false _ at
 
 returns-2 : tie.Need-returns-2 invariant-loop decreases-loop

@@ -1,5 +1,5 @@
 -- `deltas::faults::part_fault` meets its contract. Assumes nothing.
-use Rattle.deltas.proofs.Refusals.{part_in}
+use Rattle.deltas.proofs.Refusals.{part_in_lem}
 use borrow.Author.Rules.{rules}
 use Rattle.deltas.proofs.faults.part_fault.Statement.{statement}
 use Rattle.deltas.proofs.faults.part_fault.Tie as tie
@@ -8,7 +8,7 @@ enum-known-part : tie.Need-enum-known-part
 enum-known-part c = search rules
 
 text-fault-requires : tie.Need-text-fault-requires
-text-fault-requires c κs = part_in _ _ _ c.before.part.given.1 c.before.before.before.before.requires
+text-fault-requires c κs = part_in_lem _ _ _ c.before.part.given.1 c.before.before.before.before.requires
 
 enum_told : tie.Need-enum-told
 enum_told c = search rules

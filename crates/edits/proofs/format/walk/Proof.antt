@@ -10,7 +10,7 @@ use Rattle.arena.specs.Places.{Going}
 use Rattle.arena.proofs.Carried.{going_start}
 use Rattle.arena.proofs.Standing.{right_lt, neat-here}
 use Rattle.arena.proofs.Steps.{forward-carried, cut-more}
-use Rattle.edits.proofs.Formats.{walked_end, walked_stop, walked-cut, walked_on, cut-means, halving-room, lt-killed}
+use Rattle.edits.proofs.Formats.{walked_end, walked_stop, walked-cut, walked_on, cut_means, halving-room, lt_killed}
 use Rattle.marks.proofs.Rooms.{carried-room}
 use Rattle.edits.proofs.format.walk.Statement.{statement}
 use Rattle.edits.proofs.format.walk.Tie as tie
@@ -61,7 +61,7 @@ split-requires : tie.Need-split-requires invariant-loop decreases-loop
 split-requires c κs =
     let on = c.before.before.before.before.before in
     let o = on.before.before.loop.invariant in
-    let k = cut-means _ _ _ _ _ (sym c.before.before.before.turn-of.ensures ∙ c.before.if3.true) in
+    let k = cut_means _ _ _ _ _ (sym c.before.before.before.turn-of.ensures ∙ c.before.if3.true) in
     record { stands = o.stands; room = c.before.before.before.before.before.before.before.before.before.requires.1; more = on.if1.true; some = k.0; inside = k.1 }
 
 forward-requires : tie.Need-forward-requires invariant-loop decreases-loop
@@ -93,7 +93,7 @@ remembered-after-requires : tie.Need-remembered-after-requires invariant-loop de
 remembered-after-requires c κs = let on = c.before.before.before.before.before.before.before.before.before in neat-here on.before.before.loop.invariant.stands on.if1.true
 
 forward-requires-2 : tie.Need-forward-requires-2 invariant-loop decreases-loop
-forward-requires-2 c κs = let on = c.before.before.before.before.before.before.before.before.before.before.before in (on.if1.true, lt-killed c.before.before.before.before.before.before.before.before.before.turn-of.result on.before.before.loop.items on.before.before.loop.at.right _ c.before.before.before.before.before.delete-if.ensures (inside on).1)
+forward-requires-2 c κs = let on = c.before.before.before.before.before.before.before.before.before.before.before in (on.if1.true, lt_killed c.before.before.before.before.before.before.before.before.before.turn-of.result on.before.before.loop.items on.before.before.loop.at.right _ c.before.before.before.before.before.delete-if.ensures (inside on).1)
 
 loop-less : tie.Need-loop-smaller invariant-loop decreases-loop
 loop-less c = rw c.forward2.ensures (omega arith)

@@ -1,7 +1,7 @@
 -- `entries::slots::content` meets its contract. Assumes nothing.
 use native.Mathlib.Nat.{add-sub_cancel_left}
 use borrow.Author.Rules.{rules}
-use Rattle.entries.specs.Entry.{contentAt}
+use Rattle.entries.specs.Entry.{content_at}
 use Rattle.entries.proofs.slots.content.Statement.{statement}
 use Rattle.entries.proofs.slots.content.Tie as tie
 
@@ -30,7 +30,7 @@ part-result-end : tie.Need-slice-bounds-result-end
 part-result-end c = search rules
 
 returns : tie.Need-returns
-unfolding contentAt
+unfolding content_at
 returns c = rw (add-sub_cancel_left, c.before.within-slot.ensures)
 
 pub content-spec : {M : Type 1} → statement M

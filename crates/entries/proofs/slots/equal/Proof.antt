@@ -3,13 +3,13 @@ use Prim.Native.Nat.{◌≤◌, ◌-◌}
 use native.Mathlib.Omega.{arith}
 use mathlib.Core.Path.{◌≡◌, refl, sym, ◌∙◌}
 use lib.ListN.{length, drop}
-use Rattle.entries.specs.Entry.{sameBytes}
+use Rattle.entries.specs.Entry.{same_bytes}
 use Rattle.entries.proofs.Entries.{same_step, same_differs, same-short, same_end}
 use Rattle.entries.proofs.slots.equal.Statement.{statement}
 use Rattle.entries.proofs.slots.equal.Tie as tie
 
 abbrev invariant-loop : tie.invariant-loop
-invariant-loop a b i₀ i = (i ≤ length a) × (i ≤ length b) × (sameBytes (drop i a) (drop i b) ≡ sameBytes a b)
+invariant-loop a b i₀ i = (i ≤ length a) × (i ≤ length b) × (same_bytes (drop i a) (drop i b) ≡ same_bytes a b)
 
 abbrev decreases-loop : tie.decreases-loop
 decreases-loop a b i₀ i = length a - i

@@ -2,19 +2,19 @@
 use mathlib.Core.Path.{sym, ◌∙◌}
 use borrow.Author.Tests.{le-leb, lt-leb, not-true, not-false}
 use borrow.Author.Rules.{rules}
-use Rattle.entries.specs.Order.{shelfSound}
+use Rattle.entries.specs.Order.{shelf_sound}
 use Rattle.entries.proofs.soundness.shelf_sound.Statement.{statement}
 use Rattle.entries.proofs.soundness.shelf_sound.Tie as tie
 
 returns : tie.Need-returns
-unfolding shelfSound
+unfolding shelf_sound
 returns c = rw (lt-leb _ _ c.if1.true)
 
 all-fit-requires : tie.Need-all-fit-requires
 all-fit-requires c κs = search rules
 
 returns-2 : tie.Need-returns-2
-unfolding shelfSound
+unfolding shelf_sound
 returns-2 c =
     let fails = sym c.before.all_fit.ensures ∙ not-true _ c.if2.true in
     rw (le-leb _ _ c.before.before.if1.false, fails)
@@ -23,7 +23,7 @@ distinct-requires : tie.Need-distinct-requires
 distinct-requires c κs = search rules
 
 returns-3 : tie.Need-returns-3
-unfolding shelfSound
+unfolding shelf_sound
 returns-3 c =
     let fit = sym c.before.before.all_fit.ensures ∙ not-false _ c.before.if2.false in
     rw (le-leb _ _ c.before.before.before.if1.false, fit) c.distinct.ensures

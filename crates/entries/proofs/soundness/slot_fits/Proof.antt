@@ -1,7 +1,7 @@
 -- `entries::soundness::slot_fits` meets its contract. Assumes nothing.
 use borrow.Author.Tests.{eq-eqb, ne_eqb, lt-ltb, le-ltb}
 use borrow.Author.Rules.{rules}
-use Rattle.entries.specs.Order.{fitsAt}
+use Rattle.entries.specs.Order.{fits_at}
 use Rattle.entries.proofs.soundness.slot_fits.Statement.{statement}
 use Rattle.entries.proofs.soundness.slot_fits.Tie as tie
 
@@ -27,16 +27,16 @@ fits-requires : tie.Need-fits-requires
 fits-requires c κs = search rules
 
 returns : tie.Need-returns
-unfolding fitsAt
+unfolding fits_at
 returns c =
     rw (lt-ltb _ _ c.before.before.before.before.if1.true, eq-eqb _ _ c.before.before.before.if2.true) c.fits2.ensures
 
 returns-2 : tie.Need-returns-2
-unfolding fitsAt
+unfolding fits_at
 returns-2 c = rw (lt-ltb _ _ c.before.if1.true, ne_eqb _ _ c.if2.false)
 
 returns-3 : tie.Need-returns-3
-unfolding fitsAt
+unfolding fits_at
 returns-3 c = rw (le-ltb _ _ c.before.if1.false, eq-eqb _ _ c.if3.true)
 
 shared-slice-read-fits-3 : tie.Need-shared-slice-read-fits-3
@@ -52,7 +52,7 @@ fits-requires-2 : tie.Need-fits-requires-2
 fits-requires-2 c κs = search rules
 
 returns-4 : tie.Need-returns-4
-unfolding fitsAt
+unfolding fits_at
 returns-4 c = rw (le-ltb _ _ c.before.before.before.before.if1.false, ne_eqb _ _ c.before.before.before.if3.false) c.fits3.ensures
 
 pub slot-fits-spec : {M : Type 1} → statement M

@@ -6,12 +6,12 @@ use Prim.Native.Nat.{◌+◌, ◌-◌, ◌≤◌}
 use mathlib.Core.Path.{◌≡◌, refl, sym, ◌∙◌}
 use lib.ListN.{length, length-set}
 use lib.Seq.{sets}
-use Rattle.rules.specs.Reading.{unitsOf}
-use Rattle.events.specs.Told.{unitsFor}
+use Rattle.rules.specs.Reading.{units_of}
+use Rattle.events.specs.Told.{units_for}
 use Rattle.events.proofs.Texts.{copy_start, copy_step, copy-end}
 
 abbrev invariant-loop : tie.invariant-loop
-invariant-loop units start len out₀ at j₀ out j = (j ≤ len) × (length out ≡ length out₀) × (sets out (at + j) (unitsFor units (unitsOf (start + j) (len - j))) ≡ sets out₀ at (unitsFor units (unitsOf start len)))
+invariant-loop units start len out₀ at j₀ out j = (j ≤ len) × (length out ≡ length out₀) × (sets out (at + j) (units_for units (units_of (start + j) (len - j))) ≡ sets out₀ at (units_for units (units_of start len)))
 
 abbrev decreases-loop : tie.decreases-loop
 decreases-loop units start len out₀ at j₀ out j = len - j

@@ -2,7 +2,7 @@
 use borrow.Author.Rules.{rules}
 use Rattle.events.proofs.telling.tell.Statement.{statement}
 use Rattle.events.proofs.telling.tell.Tie as tie
-use Rattle.events.specs.Told.{tellAll, opsIn}
+use Rattle.events.specs.Told.{tell_all, ops_in}
 
 enum-known-found : tie.Need-enum-known-found
 enum-known-found c = search rules
@@ -23,11 +23,11 @@ same_length : tie.Need-same-length
 same_length c = search rules
 
 returns : tie.Need-returns
-unfolding tellAll opsIn
+unfolding tell_all ops_in
 returns c = rw (c.kept.ensures, c.before.before.before.before.write.ensures, c.before.before.before.before.before.before.before.found.given.1)
 
 returns-2 : tie.Need-returns-2
-unfolding tellAll opsIn
+unfolding tell_all ops_in
 returns-2 c = rw c.enum_told.given.1
 
 pub tell-spec : {M : Type 1} → statement M

@@ -4,7 +4,7 @@ use mathlib.Core.Path.{refl, sym, ap, ◌∙◌}
 use mathlib.Core.List.{List}
 use lib.Seq.{take-length}
 use borrow.Author.Tests.{lt-leb, le-leb}
-use Rattle.events.specs.Given.{atFront}
+use Rattle.events.specs.Given.{at_front}
 use borrow.Author.Rules.{rules}
 use Rattle.ffi.proofs.naming.shown.Statement.{statement}
 use Rattle.ffi.proofs.naming.shown.Tie as tie
@@ -23,7 +23,7 @@ returns-2 c =
     let a = c.before.before.before.before.before.before.before.args in
     record {
       answers = rw (le-leb _ _ c.before.before.before.before.if1.false) refl;
-      leaves = c.before.before.copy-front.ensures ∙ ap (λ (x : List ℕ). atFront x a.out.now) (sym (take-length a.bytes.now));
+      leaves = c.before.before.copy-front.ensures ∙ ap (λ (x : List ℕ). at_front x a.out.now) (sym (take-length a.bytes.now));
     }
 
 pub shown-spec : {M : Type 1} → statement M

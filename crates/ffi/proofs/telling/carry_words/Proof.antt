@@ -1,6 +1,6 @@
 -- `ffi::telling::carry_words` meets its contract. Assumes nothing.
 use mathlib.Core.Path.{refl, sym}
-use Rattle.ffi.specs.Deltas.{carryWords}
+use Rattle.ffi.specs.Deltas.{carry_words}
 use borrow.Author.Rules.{rules}
 use Rattle.ffi.proofs.telling.carry_words.Statement.{statement}
 use Rattle.ffi.proofs.telling.carry_words.Tie as tie
@@ -18,7 +18,7 @@ same-length-2 : tie.Need-same-length-2
 same-length-2 c = search rules
 
 returns : tie.Need-returns
-unfolding carryWords
+unfolding carry_words
 returns c = rw (sym c.before.before.before.before.before.before.before.before.before.read-delta.ensures, c.before.before.before.before.before.before.before.before.if1.true) c.before.before.before.before.apply-delta.ensures
 
 sound-requires : tie.Need-sound-requires
@@ -31,7 +31,7 @@ same-length-4 : tie.Need-same-length-4
 same-length-4 c = search rules
 
 returns-2 : tie.Need-returns-2
-unfolding carryWords
+unfolding carry_words
 returns-2 c = rw (sym c.before.before.before.before.before.read-delta.ensures, c.before.before.before.before.if1.false, sym c.before.sound.ensures, c.if2.true) refl
 
 same-length-5 : tie.Need-same-length-5
@@ -41,7 +41,7 @@ same-length-6 : tie.Need-same-length-6
 same-length-6 c = search rules
 
 returns-3 : tie.Need-returns-3
-unfolding carryWords
+unfolding carry_words
 returns-3 c = rw (sym c.before.before.before.before.before.read-delta.ensures, c.before.before.before.before.if1.false, sym c.before.sound.ensures, c.if2.false) refl
 
 pub carry-words-spec : {M : Type 1} → statement M

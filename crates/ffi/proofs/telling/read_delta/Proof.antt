@@ -1,7 +1,7 @@
 -- `ffi::telling::read_delta` meets its contract. Assumes nothing.
 use mathlib.Core.Path.{refl}
 use borrow.Author.Tests.{lt-ltb, le-ltb, ne_eqb, eq-eqb}
-use Rattle.ffi.specs.Deltas.{deltaIn}
+use Rattle.ffi.specs.Deltas.{delta_in}
 use borrow.Author.Rules.{rules}
 use Rattle.ffi.proofs.telling.read_delta.Statement.{statement}
 use Rattle.ffi.proofs.telling.read_delta.Tie as tie
@@ -10,11 +10,11 @@ empty-requires : tie.Need-empty-requires
 empty-requires c κs = search rules
 
 returns : tie.Need-returns
-unfolding deltaIn
+unfolding delta_in
 returns c = rw (lt-ltb _ _ c.if1.true, c.before.empty.ensures) refl
 
 returns-2 : tie.Need-returns-2
-unfolding deltaIn
+unfolding delta_in
 returns-2 c = rw (le-ltb _ _ c.before.if1.false, ne_eqb _ 0 c.if2.true, c.before.before.empty.ensures) refl
 
 cast-read-ops : tie.Need-overflow-cast-read-ops
@@ -24,7 +24,7 @@ read-ops-requires : tie.Need-read-ops-requires
 read-ops-requires c κs = search rules
 
 returns-3 : tie.Need-returns-3
-unfolding deltaIn
+unfolding delta_in
 returns-3 c = rw (le-ltb _ _ c.before.before.if1.false, eq-eqb _ 0 c.before.if2.false) c.read_ops.ensures
 
 pub read-delta-spec : {M : Type 1} → statement M

@@ -1,7 +1,7 @@
 -- `layout::word::payload` meets its contract: each arm rewrites with its constructor. Assumes nothing.
 use mathlib.Core.Path.{sym, ap}
 use native.Mathlib.Omega.{arith}
-use Rattle.layout.specs.Word.{payloadOf}
+use Rattle.layout.specs.Word.{payload_of}
 use borrow.Author.Rules.{rules}
 use Rattle.layout.proofs.word.payload.Statement.{statement}
 use Rattle.layout.proofs.word.payload.Tie as tie
@@ -43,13 +43,13 @@ add-result-2 : tie.Need-overflow-add-result-2
 add-result-2 c = search rules
 
 returns : tie.Need-returns
-returns c = (ap payloadOf (sym c.before.c.given.1), omega arith)
+returns c = (ap payload_of (sym c.before.c.given.1), omega arith)
 
 returns-2 : tie.Need-returns-2
 returns-2 c = search rules
 
 returns-3 : tie.Need-returns-3
-returns-3 c = (ap payloadOf (sym c.before.c3.given.1), omega arith)
+returns-3 c = (ap payload_of (sym c.before.c3.given.1), omega arith)
 
 pub payload-spec : {M : Type 1} → statement M
 payload-spec =

@@ -1,34 +1,34 @@
 use borrow.Author.Tests.{ne_eqb}
-use Rattle.lines.specs.Calls.{askingOf}
+use Rattle.lines.specs.Calls.{asking_of}
 use Rattle.lines.proofs.calls.asking.Statement.{statement}
 use Rattle.lines.proofs.calls.asking.Tie as tie
 
 returns : tie.Need-returns
-unfolding askingOf
+unfolding asking_of
 returns c = rw c.if1.true
 
 returns-2 : tie.Need-returns-2
-unfolding askingOf
+unfolding asking_of
 returns-2 c = rw c.if2.true
 
 returns-3 : tie.Need-returns-3
-unfolding askingOf
+unfolding asking_of
 returns-3 c = rw c.if3.true
 
 returns-4 : tie.Need-returns-4
-unfolding askingOf
+unfolding asking_of
 returns-4 c = rw c.if4.true
 
 returns-5 : tie.Need-returns-5
-unfolding askingOf
+unfolding asking_of
 returns-5 c = rw c.if5.true
 
 returns-6 : tie.Need-returns-6
-unfolding askingOf
+unfolding asking_of
 returns-6 c = rw c.if6.true
 
 returns-7 : tie.Need-returns-7
-unfolding askingOf
+unfolding asking_of
 returns-7 c =
     simp (
       ne_eqb _ _ c.before.before.before.before.before.if1.false,

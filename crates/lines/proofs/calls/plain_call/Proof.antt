@@ -2,7 +2,7 @@ use borrow.Author.Rules.{rules}
 use Rattle.lines.proofs.calls.plain_call.Statement.{statement}
 use Rattle.lines.proofs.calls.plain_call.Tie as tie
 use mathlib.Core.Path.{ap, ◌∙◌}
-use Rattle.lines.specs.Calls.{bareAsked}
+use Rattle.lines.specs.Calls.{bare_asked}
 use Rattle.lines.proofs.Calling.{plain-is}
 
 read-field-requires : tie.Need-read-field-requires
@@ -30,7 +30,7 @@ bare-requires-3 : tie.Need-bare-requires-3
 bare-requires-3 c κs = search rules
 
 returns : tie.Need-returns
-returns c = plain-is c.before.before.before.before.before.before.args.s.now c.before.before.before.before.before.before.args.from c.before.before.before.before.before.before.args.name _ _ c.before.before.before.before.read-field.ensures.is c.before.before.enum_told.given.1 (c.bare.ensures ∙ ap bareAsked c.before.plain.ensures)
+returns c = plain-is c.before.before.before.before.before.before.args.s.now c.before.before.before.before.before.before.args.from c.before.before.before.before.before.before.args.name _ _ c.before.before.before.before.read-field.ensures.is c.before.before.enum_told.given.1 (c.bare.ensures ∙ ap bare_asked c.before.plain.ensures)
 
 returns-2 : tie.Need-returns-2
 returns-2 c = plain-is c.before.before.before.before.before.args.s.now c.before.before.before.before.before.args.from c.before.before.before.before.before.args.name _ _ c.before.before.before.read-field.ensures.is c.before.enum-told2.given.1 c.bare2.ensures

@@ -1,26 +1,26 @@
 use Rattle.lines.proofs.deltas.sort_of.Statement.{statement}
 use Rattle.lines.proofs.deltas.sort_of.Tie as tie
 use borrow.Author.Tests.{ne_eqb}
-use Rattle.lines.specs.Deltas.{sortOf}
+use Rattle.lines.specs.Deltas.{sort_of}
 
 returns : tie.Need-returns
-unfolding sortOf
+unfolding sort_of
 returns c = rw c.if1.true
 
 returns-2 : tie.Need-returns-2
-unfolding sortOf
+unfolding sort_of
 returns-2 c = rw c.if2.true
 
 returns-3 : tie.Need-returns-3
-unfolding sortOf
+unfolding sort_of
 returns-3 c = rw c.if3.true
 
 returns-4 : tie.Need-returns-4
-unfolding sortOf
+unfolding sort_of
 returns-4 c = rw c.if4.true
 
 returns-5 : tie.Need-returns-5
-unfolding sortOf
+unfolding sort_of
 returns-5 c =
     simp (ne_eqb _ _ c.before.before.before.if1.false, ne_eqb _ _ c.before.before.if2.false, ne_eqb _ _ c.before.if3.false, ne_eqb _ _ c.if4.false)
 

@@ -1,7 +1,7 @@
 use borrow.Author.Rules.{rules}
 use Rattle.lines.proofs.deltas.text_op.Statement.{statement}
 use Rattle.lines.proofs.deltas.text_op.Tie as tie
-use Rattle.lines.proofs.Operations.{text-bounds, text-taken}
+use Rattle.lines.proofs.Operations.{text_bounds, text-taken}
 use Rattle.lines.proofs.Calling.{starts-within}
 use native.Mathlib.Omega.{arith}
 
@@ -15,10 +15,10 @@ cast-t12 : tie.Need-overflow-cast-t12
 cast-t12 c = search rules
 
 sub-t13 : tie.Need-overflow-sub-t13
-sub-t13 c = (text-bounds c.before.before.before.before.start.ensures c.before.before.read-fields.ensures c.before.before.before.before.before.before.before.requires.1.0).0
+sub-t13 c = (text_bounds c.before.before.before.before.start.ensures c.before.before.read-fields.ensures c.before.before.before.before.before.before.before.requires.1.0).0
 
 cast-t14 : tie.Need-overflow-cast-t14
-cast-t14 c = let b = text-bounds c.before.before.before.before.start.ensures c.before.before.read-fields.ensures c.before.before.before.before.before.before.before.requires.1.0 in omega (arith, b.1, c.before.before.before.before.before.before.before.requires.1.1)
+cast-t14 c = let b = text_bounds c.before.before.before.before.start.ensures c.before.before.read-fields.ensures c.before.before.before.before.before.before.before.requires.1.0 in omega (arith, b.1, c.before.before.before.before.before.before.before.requires.1.1)
 
 with-op-requires : tie.Need-with-op-requires
 with-op-requires c κs = search rules

@@ -55,7 +55,7 @@ use Rattle.runs.specs.declared.calls.Count.{Count}
 use Rattle.cursors.specs.declared.cursor.Cursor.{Cursor}
 use Rattle.cursors.specs.declared.run.Run.{Run}
 use Rattle.cursors.specs.Cursors.{Stands, start_of, Next}
-use Rattle.runs.specs.Answers.{written, recordsIn, planned}
+use Rattle.runs.specs.Answers.{written, records_in, planned}
 use Rattle.runs.proofs.Tallies.{planned-within}
 use Rattle.runs.proofs.Fronts.{length-written, written_none}
 use Rattle.runs.proofs.Fills.{plan-most, Filling, filling-start, filling-next, fill_more}
@@ -130,11 +130,11 @@ module _ {M : Type 1} {𝓤 : Ura M} (𝓛 : Logic 𝓤) (mem : Memory → SProp
   abbrev mach : Count → Val
   mach r = LL.val Co.the_type Co'.the_laws r
 
-  abbrev machC : Cursor → Val
-  machC c = LL.val Cu.the_type Cu'.the_laws c
+  abbrev mach_c : Cursor → Val
+  mach_c c = LL.val Cu.the_type Cu'.the_laws c
 
-  abbrev machR : Run → Val
-  machR r = LL.val T.the_type T'.the_laws r
+  abbrev mach_r : Run → Val
+  mach_r r = LL.val T.the_type T'.the_laws r
 
   abbrev Arg : Type 0
   Arg = Head × (Bor (List ℕ) × (Bor (List ℕ) × (Bool × (Bor (List Run) × Unit {0}))))
@@ -164,7 +164,7 @@ module _ {M : Type 1} {𝓤 : Ura M} (𝓛 : Logic 𝓤) (mem : Memory → SProp
 
   -- the records, the answer, how many are written, and the list after i of them
   abbrev recs : List Run
-  recs = recordsIn h w.now j
+  recs = records_in h w.now j
 
   abbrev ans : Count
   ans = planned h w.now z.now j (length ys)
@@ -215,9 +215,9 @@ module _ {M : Type 1} {𝓤 : Ura M} (𝓛 : Logic 𝓤) (mem : Memory → SProp
   start-asks = qed 𝓛 [] ∵ nothing ! $ owned ! He.the_row (Is He.the_row) (LL.makes He.the_type He'.the_plain 𝓛) h _ h-is $ fjoin ! $ nothing ! $ join ! $ frame ! $ done !
 
   abbrev to-next : Cursor → (NextRun 𝓛 mem run).Ghost
-  to-next c = (((κ₀, tt), (q₀, tt), tt, (w, (j, (c, tt))), (items ∷ [], (vbool j ∷ [], (machC c ∷ [], tt)))), tt)
+  to-next c = (((κ₀, tt), (q₀, tt), tt, (w, (j, (c, tt))), (items ∷ [], (vbool j ∷ [], (mach_c c ∷ [], tt)))), tt)
 
-  next-asks : (c : Cursor) → Is C c (machC c ∷ []) → Stands w.now c.spot → ent 𝓤 (sep 𝓤 (mean 𝓛 AliveI) (sem 𝓛 OwnI)) ((NextRun 𝓛 mem run).pre (to-next c))
+  next-asks : (c : Cursor) → Is C c (mach_c c ∷ []) → Stands w.now c.spot → ent 𝓤 (sep 𝓤 (mean 𝓛 AliveI) (sem 𝓛 OwnI)) ((NextRun 𝓛 mem run).pre (to-next c))
   next-asks c is stands =
       qed 𝓛 (AliveI ∷ ‵ OwnI ∷ []) ∵ says ! stands $ frame ! $ nothing ! $ owned ! C (Is C) (LL.makes Cu.the_type Cu'.the_plain 𝓛) c _ is $ fjoin ! $ owned ! Boolean (Is Boolean) (bool_Makes 𝓛) j _ refl $ fjoin ! $ move ! (1 ∷ 0 ∷ []) $ fjoin ! $ done !
 
@@ -238,18 +238,18 @@ module _ {M : Type 1} {𝓤 : Ura M} (𝓛 : Logic 𝓤) (mem : Memory → SProp
   cursor-typed c u is = ((LL.lawful Cu.the_type Cu'.the_laws 𝓛).typed c _ is).0
 
   -- a cursor as it lies in its local, and the run in it
-  spelt : (c : Cursor) (u : Val) → Is C c (u ∷ []) → Is C c (machC c ∷ [])
+  spelt : (c : Cursor) (u : Val) → Is C c (u ∷ []) → Is C c (mach_c c ∷ [])
   spelt c u is = subst (Is C c) (LL.tells Cu.the_type Cu'.the_laws c (u ∷ []) is) is
 
-  run_is : (c : Cursor) → Is C c (machC c ∷ []) → Is R c.run (machR c.run ∷ [])
+  run_is : (c : Cursor) → Is C c (mach_c c ∷ []) → Is R c.run (mach_r c.run ∷ [])
   run_is c is = (LL.owed Cu.the_type Cu'.the_laws c _ is).1.1.0
 
-  run_typed : (c : Cursor) → Is C c (machC c ∷ []) → Holds (has_ty T'.mir (machR c.run)) × WT (machR c.run)
+  run_typed : (c : Cursor) → Is C c (mach_c c ∷ []) → Holds (has_ty T'.mir (mach_r c.run)) × WT (mach_r c.run)
   run_typed c is = ((LL.lawful T.the_type T'.the_laws 𝓛).typed c.run _ (run_is c is)).0
 
   -- ---- the loop, of n turns
   abbrev Upto : Type 0
-  Upto = (f : Filling h w.now z.now j (length ys)) × Is C f.cursor (machC f.cursor ∷ [])
+  Upto = (f : Filling h w.now z.now j (length ys)) × Is C f.cursor (mach_c f.cursor ∷ [])
 
   abbrev Nearer : Upto → Upto → Type 0
   Nearer g f = n - g.0.at < n - f.0.at
@@ -276,7 +276,7 @@ module _ {M : Type 1} {𝓤 : Ura M} (𝓛 : Logic 𝓤) (mem : Memory → SProp
       At f = ‵ (row R full_share (L f.0.at) b o) ∷ AliveI ∷ ‵ OwnI ∷ ‵ (flft κ₁ q₁) ∷ ‵ OwnU
           ∷ ‵ (fobor κ₂ q₂ (Held R (length ys) b o γ)) ∷ ‵ (fobs γ ((coded_holeys R).code (heres R ys))) ∷ ‵ (fauth γ ((coded_holeys R).code (heres R ys)))
           ∷ ‵ (froom ty_ptr l₁₂ 0) ∷ ‵ (fdies ty_ptr l₁₂) ∷ ‵ (froom word l₁₁ 0) ∷ ‵ (fdies word l₁₁) ∷ ‵ (froom ty_bool l₁₀ 0) ∷ ‵ (fdies ty_bool l₁₀) ∷ ‵ (froom word l₉ 0) ∷ ‵ (fdies word l₉)
-          ∷ ‵ (fat full_share word l₈ 0 (vint w64 f.0.at)) ∷ ‵ (fdies word l₈) ∷ ‵ (fat full_share Cu'.mir l₇ 0 (machC f.0.cursor)) ∷ ‵ (fdies Cu'.mir l₇) ∷ ‵ (fat full_share Co'.mir l₆ 0 (mach ans)) ∷ ‵ (fdies Co'.mir l₆)
+          ∷ ‵ (fat full_share word l₈ 0 (vint w64 f.0.at)) ∷ ‵ (fdies word l₈) ∷ ‵ (fat full_share Cu'.mir l₇ 0 (mach_c f.0.cursor)) ∷ ‵ (fdies Cu'.mir l₇) ∷ ‵ (fat full_share Co'.mir l₆ 0 (mach ans)) ∷ ‵ (fdies Co'.mir l₆)
           ∷ ‵ (fat full_share τ₅ l₅ 0 outs) ∷ ‵ (fdies τ₅ l₅) ∷ ‵ (fat full_share ty_bool l₄ 0 (vbool j)) ∷ ‵ (fdies ty_bool l₄) ∷ ‵ (fat full_share τ₃ l₃ 0 units) ∷ ‵ (fdies τ₃ l₃) ∷ ‵ (fat full_share τ₂ l₂ 0 items) ∷ ‵ (fdies τ₂ l₂)
           ∷ ‵ (fat full_share He'.mir l₁ 0 head) ∷ ‵ (fdies He'.mir l₁) ∷ ‵ (froom Co'.mir l₀ 0) ∷ ‵ (fdies Co'.mir l₀) ∷ []
 
@@ -305,7 +305,7 @@ module _ {M : Type 1} {𝓤 : Ura M} (𝓛 : Logic 𝓤) (mem : Memory → SProp
           move ! (2 ∷ []) $ elem_out ! R (Is R) (shows 𝓛 R) (LL.vals T.the_type T'.the_laws) (LL.tells T.the_type T'.the_laws) full_share (L f.0.at) f.0.at r.run b o l (λ _.
           -- [out[i]; what it owns; the others; the token; what items owns; …; _12; …]
           assigns ! (of_opd ! (load ! (from ! (fld ! refl (stop !))) (look_in ! 20 (sub ! 2 refl (whole !))))) (from ! (hop ! (look ! 10 refl) (stop !))) (store_raw ! 0 refl (run_typed r (spelt r u is))) $
-          move ! (1 ∷ []) $ drop ! $ owned ! R (Is R) (LL.makes T.the_type T'.the_plain 𝓛) r.run _ (run_is r (spelt r u is)) $ move ! (1 ∷ 0 ∷ []) $ elem_put ! R full_share (L f.0.at) f.0.at r.run (machR r.run ∷ []) b o l $
+          move ! (1 ∷ []) $ drop ! $ owned ! R (Is R) (LL.makes T.the_type T'.the_plain 𝓛) r.run _ (run_is r (spelt r u is)) $ move ! (1 ∷ 0 ∷ []) $ elem_put ! R full_share (L f.0.at) f.0.at r.run (mach_r r.run ∷ []) b o l $
           rewrite ! 0 (λ (l : List Run). ‵ (row R full_share l b o)) (fill_more h w.now z.now j (length ys) f.0 less r e ys (below less)) refl $
           assigns_last ! (bin ! (load ! (from ! (stop !)) (look ! 16 refl)) (lit ! tt) (record { fits = fits_more less })) (from ! (stop !)) (store ! 16 refl (tt, record { fits = fits_more less })) $
           forget ! 8 refl $ forget ! 10 refl $ forget ! 12 refl $ move ! (0 ∷ []) $ again ! Nearer At f (filling-next h w.now z.now j (length ys) f.0 less r e, spelt r u is) (omega (arith, less)))))))

@@ -51,7 +51,7 @@ use Rattle.layout.specs.contracts.head.Head as He
 use Rattle.layout.proofs.head.Head.TheLaws as He'
 use Rattle.runs.specs.declared.calls.Count.{Count}
 use Rattle.cursors.specs.declared.run.Run.{Run}
-use Rattle.runs.specs.Answers.{written, recordsIn}
+use Rattle.runs.specs.Answers.{written, records_in}
 use Rattle.runs.specs.Fills.{Filled, paged}
 use Rattle.runs.proofs.Steps.{big-lit}
 use Rattle.runs.proofs.Lent.{array-cells, cells-array}
@@ -157,7 +157,7 @@ module _ {M : Type 1} {𝓤 : Ura M} (𝓛 : Logic 𝓤) (mem' : Memory → SPro
 
   -- what the filled slice holds, in terms of the array alone
   handed : (zs : List Run) (r : Count) → Filled h w.now z.now j ys zs r → zs ≡ paged h w.now z.now j ys
-  handed zs r f = f.leaves ∙ ap (λ (c : Count). written (recordsIn h w.now j) c.count ys) f.answers
+  handed zs r f = f.leaves ∙ ap (λ (c : Count). written (records_in h w.now j) c.count ys) f.answers
 
   module _ (C : Calls 𝓤 H) (Λ : Loops 𝓤 H) (fm : FmC 𝓤 H 𝓛.laws C) (known : Triple 𝓤 (C #fill-runs) (Fill 𝓛 mem' run)) where
     walk : Is P ys (mach ys ∷ []) → ent 𝓤 (on_entry 𝓛 page.signature (κ₀, (κ₁, tt)) (q₀, (q₁, tt)) a vals) (WpFn 𝓤 H C Λ code.function (head ∷ items ∷ units ∷ vbool j ∷ mach ys ∷ []) Post)

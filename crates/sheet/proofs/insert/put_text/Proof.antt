@@ -9,14 +9,14 @@ use borrow.Author.Tests.{not-true, not-false}
 use Rattle.attrs.specs.Packed.{says}
 use Rattle.rules.specs.Calls.{Call}
 use Rattle.rules.specs.Rulings.{ruling}
-use Rattle.layout.specs.Memory.{modelOf, soundOf}
+use Rattle.layout.specs.Memory.{model_of, sound_of}
 use Rattle.layout.proofs.Soundness.{sound-parts}
 use Rattle.changes.specs.Changes.{Ready}
-use Rattle.sheet.specs.Inserts.{textCall}
-use Rattle.changes.proofs.Works.{granted-by}
+use Rattle.sheet.specs.Inserts.{text_call}
+use Rattle.changes.proofs.Works.{granted_by}
 use Rattle.changes.proofs.Sounds.{sound-loads}
-use Rattle.changes.proofs.Calls.{carry-unsound, carry-quiet, carry-faulty, carry-crowded, carry-granted}
-use Rattle.sheet.proofs.Inserts.{textRuled, text-ruled, text-quiet, text-long, text-ready}
+use Rattle.changes.proofs.Calls.{carry_unsound, carry_quiet, carry-faulty, carry-crowded, carry-granted}
+use Rattle.sheet.proofs.Inserts.{text_ruled, text-ruled, text_quiet, text-long, text_ready}
 use borrow.Author.Rules.{rules}
 use Rattle.sheet.proofs.insert.put_text.Statement.{statement}
 use Rattle.sheet.proofs.insert.put_text.Tie as tie
@@ -26,18 +26,18 @@ first c = c.before.before.before.before.before.before
 
 -- the call that is asked for, and its ruling
 abbrev asked : tie.Start → Call
-asked s = textCall s.args.plain s.args.index s.args.chunk.now (says s.args.attrs)
+asked s = text_call s.args.plain s.args.index s.args.chunk.now (says s.args.attrs)
 
 sound-here : (c : tie.Else1) → (
     let a = (first c.before).args in
-    soundOf a.h a.items.now a.units.now ≡ true
+    sound_of a.h a.items.now a.units.now ≡ true
     )
 sound-here c = sym c.before.sound.ensures ∙ not-false _ c.if1.false
 
 ruled : (c : tie.Else2) → (
     let s = first c.before.before in
     let a = s.args in
-    ruling (asked s) (modelOf a.h a.items.now a.units.now) ≡ textRuled a.plain a.index a.chunk.now (says a.attrs) a.h a.items.now a.units.now
+    ruling (asked s) (model_of a.h a.items.now a.units.now) ≡ text_ruled a.plain a.index a.chunk.now (says a.attrs) a.h a.items.now a.units.now
     )
 ruled c =
     let a = (first c.before.before).args in
@@ -53,7 +53,7 @@ same-length-2 : tie.Need-same-length-2
 same-length-2 c = search rules
 
 returns : tie.Need-returns
-returns c = carry-unsound (asked (first c.before)) _ _ _ (sym c.before.sound.ensures ∙ not-true _ c.if1.true)
+returns c = carry_unsound (asked (first c.before)) _ _ _ (sym c.before.sound.ensures ∙ not-true _ c.if1.true)
 
 same-length-3 : tie.Need-same-length-3
 same-length-3 c = search rules
@@ -65,7 +65,7 @@ returns-2 : tie.Need-returns-2
 returns-2 c =
     let e = c.before in
     let a = (first e.before).args in
-    carry-quiet (asked (first e.before)) _ _ _ (sound-here e) (text-quiet a.plain a.index a.chunk.now (says a.attrs) _ c.if2.true)
+    carry_quiet (asked (first e.before)) _ _ _ (sound-here e) (text_quiet a.plain a.index a.chunk.now (says a.attrs) _ c.if2.true)
 
 text-fault-requires : tie.Need-text-fault-requires
 text-fault-requires c κs = sound-here c.before.before.before
@@ -118,7 +118,7 @@ edit-requires c κs =
     let some = fits.before.before.before.before.before in
     let sound = sound-here some.before in
     let few : (first some.before.before).args.h.units + length (first some.before.before).args.chunk.now ≤ 16384 = omega (arith, fits.if4.false, (sound-parts _ _ _ sound).used) in
-    (sound-loads _ _ _ sound, subst⁻¹ Ready c.before.text-change.ensures (text-ready (first some.before.before).args.plain _ _ (omega (arith, some.if2.false)) few))
+    (sound-loads _ _ _ sound, subst⁻¹ Ready c.before.text-change.ensures (text_ready (first some.before.before).args.plain _ _ (omega (arith, some.if2.false)) few))
 
 append-accepted-requires : tie.Need-append-accepted-requires
 append-accepted-requires c κs =
@@ -144,7 +144,7 @@ returns-5 c =
     let sound = sound-here some.before in
     let few : a.h.units + length a.chunk.now ≤ 16384 = omega (arith, change.before.if4.false, (sound-parts _ _ _ sound).used) in
     carry-granted (asked s) _ _ _ sound _ (ruled some) _ clear.before.text-fault.ensures clear.if3.false _ (text-long a.plain a.index a.chunk.now (says a.attrs) a.h a.items.now a.units.now sound) few _
-    (granted-by _ _ _ _ _ _ done.edit.ensures change.text-change.ensures)
+    (granted_by _ _ _ _ _ _ done.edit.ensures change.text-change.ensures)
     _ end.append-accepted.ensures
 
 pub put-text-spec : {M : Type 1} → statement M

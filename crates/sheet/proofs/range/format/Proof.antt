@@ -3,11 +3,11 @@ use mathlib.Core.Path.{◌≡◌, refl, sym, ◌∙◌}
 use mathlib.Core.Bool.{true}
 use borrow.Author.Tests.{not-true, not-false}
 use Rattle.attrs.specs.Packed.{says}
-use Rattle.rules.specs.Calls.{Call, formatRange}
-use Rattle.layout.specs.Memory.{soundOf}
+use Rattle.rules.specs.Calls.{Call, format_range}
+use Rattle.layout.specs.Memory.{sound_of}
 use Rattle.changes.specs.Changes.{move_of}
 use Rattle.changes.proofs.Sounds.{sound-loads}
-use Rattle.changes.proofs.Calls.{carry-unsound, carry-faulty, carry-edited}
+use Rattle.changes.proofs.Calls.{carry_unsound, carry-faulty, carry-edited}
 use borrow.Author.Rules.{rules}
 use Rattle.sheet.proofs.range.format.Statement.{statement}
 use Rattle.sheet.proofs.range.format.Tie as tie
@@ -16,11 +16,11 @@ abbrev first : tie.After-sound → tie.Start
 first c = c.before.before.before.before
 
 abbrev asked : tie.Start → Call
-asked s = formatRange s.args.index s.args.len (says s.args.attrs)
+asked s = format_range s.args.index s.args.len (says s.args.attrs)
 
 sound-here : (c : tie.Else1) → (
     let a = (first c.before).args in
-    soundOf a.h a.items.now a.units.now ≡ true
+    sound_of a.h a.items.now a.units.now ≡ true
     )
 sound-here c = sym c.before.sound.ensures ∙ not-false _ c.if1.false
 
@@ -31,7 +31,7 @@ same_length : tie.Need-same-length
 same_length c = search rules
 
 returns : tie.Need-returns
-returns c = carry-unsound (asked (first c.before)) _ _ _ (sym c.before.sound.ensures ∙ not-true _ c.if1.true)
+returns c = carry_unsound (asked (first c.before)) _ _ _ (sym c.before.sound.ensures ∙ not-true _ c.if1.true)
 
 range-fault-requires : tie.Need-range-fault-requires
 range-fault-requires c κs = sound-here c.before

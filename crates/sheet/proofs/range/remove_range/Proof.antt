@@ -2,13 +2,13 @@
 use mathlib.Core.Path.{◌≡◌, refl, sym, ◌∙◌}
 use mathlib.Core.Bool.{true}
 use borrow.Author.Tests.{not-true, not-false}
-use Rattle.rules.specs.Calls.{Call, removeRange}
-use Rattle.layout.specs.Memory.{soundOf}
+use Rattle.rules.specs.Calls.{Call, remove_range}
+use Rattle.layout.specs.Memory.{sound_of}
 use Rattle.soundness.proofs.Measures.{sound-is, len_is}
 use Rattle.changes.specs.Changes.{move_of}
 use Rattle.changes.proofs.Sounds.{sound-loads}
-use Rattle.changes.proofs.Calls.{carry-unsound, carry-faulty, carry-quiet, carry-edited}
-use Rattle.refusals.proofs.Ranges.{remove-quiet, remove-ruled}
+use Rattle.changes.proofs.Calls.{carry_unsound, carry-faulty, carry_quiet, carry-edited}
+use Rattle.refusals.proofs.Ranges.{remove_quiet, remove-ruled}
 use borrow.Author.Rules.{rules}
 use Rattle.sheet.proofs.range.remove_range.Statement.{statement}
 use Rattle.sheet.proofs.range.remove_range.Tie as tie
@@ -17,11 +17,11 @@ abbrev first : tie.After-measure → tie.Start
 first c = c.before.before.before.before
 
 abbrev asked : tie.Start → Call
-asked s = removeRange s.args.index s.args.len
+asked s = remove_range s.args.index s.args.len
 
 sound-here : (c : tie.Else1) → (
     let a = (first c.before.before).args in
-    soundOf a.h a.items.now a.units.now ≡ true
+    sound_of a.h a.items.now a.units.now ≡ true
     )
 sound-here c = sym (sound-is _ _ _ _ c.before.before.measure.ensures) ∙ not-false _ c.if1.false
 
@@ -32,7 +32,7 @@ same_length : tie.Need-same-length
 same_length c = search rules
 
 returns : tie.Need-returns
-returns c = carry-unsound (asked (first c.before.before)) _ _ _ (sym (sound-is _ _ _ _ c.before.before.measure.ensures) ∙ not-true _ c.if1.true)
+returns c = carry_unsound (asked (first c.before.before)) _ _ _ (sym (sound-is _ _ _ _ c.before.before.measure.ensures) ∙ not-true _ c.if1.true)
 
 removal-fault-requires : tie.Need-removal-fault-requires
 removal-fault-requires c κs = (sound-here c.before, len_is _ _ _ _ c.before.before.before.measure.ensures (sound-here c.before))
@@ -52,7 +52,7 @@ returns-3 : tie.Need-returns-3
 returns-3 c =
     let clear = c.before in
     let e = clear.before.before.before in
-    carry-quiet (asked (first e.before.before)) _ _ _ (sound-here e) (remove-quiet _ _ _ _ c.if3.true clear.before.removal-fault.ensures clear.if2.false)
+    carry_quiet (asked (first e.before.before)) _ _ _ (sound-here e) (remove_quiet _ _ _ _ c.if3.true clear.before.removal-fault.ensures clear.if2.false)
 
 empty-requires : tie.Need-empty-requires
 empty-requires c κs = search rules

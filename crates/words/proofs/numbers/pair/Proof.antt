@@ -4,7 +4,7 @@ use Rattle.words.proofs.numbers.pair.Tie as tie
 use mathlib.Core.Path.{sym, ap, ap₂, ◌∙◌}
 use native.Mathlib.Omega.{arith}
 use lib.Seq.{length-take-le}
-use Rattle.words.specs.Numbers.{asPair}
+use Rattle.words.specs.Numbers.{as_pair}
 use Rattle.words.specs.declared.numbers.Number.{Number}
 use Rattle.words.proofs.Figures.{pair_is}
 
@@ -37,7 +37,7 @@ enum_told c = search rules
 
 returns : tie.Need-returns
 returns c =
-    sym (ap (λ (x : Number). asPair x c.before.before.read-number2.result) c.enum_told.given.1)
+    sym (ap (λ (x : Number). as_pair x c.before.before.read-number2.result) c.enum_told.given.1)
     ∙ pair_is c.before.before.before.before.before.before.before.args.w.now c.before.before.before.before.before.before.before.args.e _ _ c.before.before.before.before.read_number.ensures c.before.before.read-number2.ensures
 
 enum-known-v : tie.Need-enum-known-v
@@ -48,12 +48,12 @@ enum-told-2 c = search rules
 
 returns-2 : tie.Need-returns-2
 returns-2 c =
-    sym (ap₂ (λ (x y : Number). asPair x y) c.before.before.before.k.given.1 c.enum-told2.given.1)
+    sym (ap₂ (λ (x y : Number). as_pair x y) c.before.before.before.k.given.1 c.enum-told2.given.1)
     ∙ pair_is c.before.before.before.before.before.before.before.before.before.before.args.w.now c.before.before.before.before.before.before.before.before.before.before.args.e _ _ c.before.before.before.before.before.before.before.read_number.ensures c.before.before.before.before.before.read-number2.ensures
 
 returns-3 : tie.Need-returns-3
 returns-3 c =
-    sym (ap₂ (λ (x y : Number). asPair x y) c.before.before.before.before.k.given.1 c.before.v.given.1)
+    sym (ap₂ (λ (x y : Number). as_pair x y) c.before.before.before.before.k.given.1 c.before.v.given.1)
     ∙ pair_is c.before.before.before.before.before.before.before.before.before.before.before.args.w.now c.before.before.before.before.before.before.before.before.before.before.before.args.e _ _ c.before.before.before.before.before.before.before.before.read_number.ensures c.before.before.before.before.before.before.read-number2.ensures
 
 pub pair_spec : {M : Type 1} → statement M

@@ -2,7 +2,7 @@ use borrow.Author.Rules.{rules}
 use Rattle.words.proofs.show.put_decimal.Statement.{statement}
 use Rattle.words.proofs.show.put_decimal.Tie as tie
 use native.Mathlib.Omega.{arith}
-use Rattle.words.proofs.Writing.{fewest-short, decimal-wrote}
+use Rattle.words.proofs.Writing.{fewest_short, decimal-wrote}
 
 decimal-requires : tie.Need-decimal-requires
 decimal-requires c κs = search rules
@@ -16,7 +16,7 @@ slice-aggregate-put c = search rules
 put-requires : tie.Need-put-requires
 put-requires c κs =
     let e = c.before.before.decimal.ensures in
-    omega (arith, e.0.1, fewest-short c.before.before.before.before.before.args.x _ (omega arith) e.1.0)
+    omega (arith, e.0.1, fewest_short c.before.before.before.before.before.args.x _ (omega arith) e.1.0)
 
 same_length : tie.Need-same-length
 same_length c = search rules

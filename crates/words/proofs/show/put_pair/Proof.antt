@@ -2,7 +2,7 @@ use borrow.Author.Rules.{rules}
 use Rattle.words.proofs.show.put_pair.Statement.{statement}
 use Rattle.words.proofs.show.put_pair.Tie as tie
 use native.Mathlib.Omega.{arith}
-use Rattle.words.proofs.Writing.{spelled-short, pair-wrote}
+use Rattle.words.proofs.Writing.{spelled_short, pair-wrote}
 
 slice-aggregate-put : tie.Need-slice-aggregate-put
 slice-aggregate-put c = search rules
@@ -17,10 +17,10 @@ slice-aggregate-put-2 : tie.Need-slice-aggregate-put-2
 slice-aggregate-put-2 c = search rules
 
 put-requires-2 : tie.Need-put-requires-2
-put-requires-2 c κs = omega (arith, spelled-short 20 c.before.before.before.before.before.before.before.before.before.before.before.before.args.key, c.before.before.before.before.put-decimal.ensures, c.before.before.before.before.before.before.before.before.put.ensures)
+put-requires-2 c κs = omega (arith, spelled_short 20 c.before.before.before.before.before.before.before.before.before.before.before.before.args.key, c.before.before.before.before.put-decimal.ensures, c.before.before.before.before.before.before.before.before.put.ensures)
 
 put-decimal-requires-2 : tie.Need-put-decimal-requires-2
-put-decimal-requires-2 c κs = omega (arith, spelled-short 20 c.before.before.before.before.before.before.before.before.before.before.before.before.before.before.before.before.args.key, c.before.before.before.put2.ensures, c.before.before.before.before.before.before.before.before.put-decimal.ensures, c.before.before.before.before.before.before.before.before.before.before.before.before.put.ensures)
+put-decimal-requires-2 c κs = omega (arith, spelled_short 20 c.before.before.before.before.before.before.before.before.before.before.before.before.before.before.before.before.args.key, c.before.before.before.put2.ensures, c.before.before.before.before.before.before.before.before.put-decimal.ensures, c.before.before.before.before.before.before.before.before.before.before.before.before.put.ensures)
 
 same_length : tie.Need-same-length
 same_length c = search rules
