@@ -1,4 +1,5 @@
 // A working copy of a sheet's items, with room to spare, and the places in it.
+#![tactic(auto)]
 ghost use Rattle.std.specs.Prelude.{◌≡◌, false, ◌-◌, ◌<◌, ◌≤◌, length};
 ghost use Rattle.arena.specs.Places.{start_of, passed_force, forward_of, kept_place};
 
@@ -12,7 +13,7 @@ pub mod find; // the place at an index
 
 // A place between two items: their numbers (the end link where there is none), how many items stand right of it,
 // and what is in force there.
-#[derive(Drop)]
+#[derive(Clone, Copy)]
 pub struct Place {
     pub left: u32,
     pub right: u32,
@@ -49,7 +50,7 @@ impl Place {
 }
 
 // A place reached, and the head that goes with it.
-#[derive(Drop)]
+#[derive(Clone, Copy)]
 pub struct At {
     pub head: Head,
     pub place: Place,

@@ -13,7 +13,7 @@ use layout::word::Content;
 use ops::delta::{Inserted, Op};
 
 // `units` counts the text told so far: an insertion's text begins there. `attrs` are pending; `current` are in force now, `old` were.
-#[derive(Drop)]
+#[derive(Clone, Copy)]
 pub struct Assembler {
     pub action: Action,
     pub units: u32,
@@ -22,7 +22,7 @@ pub struct Assembler {
     pub old: Attrs,
 }
 
-#[derive(Drop)]
+#[derive(Clone, Copy)]
 pub struct Passed {
     pub first: MaybeOp,
     pub second: MaybeOp,

@@ -10,7 +10,7 @@ use crate::runs::{Action, Sight, Turn, goes, starts};
 use attrs::Attrs;
 
 // What a mark makes of its key's pending attribute.
-#[derive(Drop)]
+#[derive(Clone, Copy)]
 pub enum Pending {
     Stays,
     Drops,

@@ -5,7 +5,7 @@ ghost use Rattle.assembling.specs.Steps.{flags_of, sight_of, counted, inserted_b
 
 use layout::word::Item;
 
-#[derive(Drop)]
+#[derive(Clone, Copy)]
 pub enum Action {
     Idle,
     Inserting(u32),
@@ -14,14 +14,14 @@ pub enum Action {
 }
 
 // Whether an item stood before and stands now.
-#[derive(Drop)]
+#[derive(Clone, Copy)]
 pub struct Sight {
     pub was: bool,
     pub is: bool,
 }
 
 // Does the run end, and which goes on?
-#[derive(Drop)]
+#[derive(Clone, Copy)]
 pub struct Turn {
     pub ends: bool,
     pub action: Action,

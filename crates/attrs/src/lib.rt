@@ -1,4 +1,5 @@
 // Attribute sets: for each key 0 to 15 absent, null (0) or a value 1 to 255. A set goes by value.
+#![tactic(auto)]
 ghost use Rattle.std.specs.Prelude.{◌≡◌, not, ◌<◌, length};
 ghost use Rattle.sets.specs.Sets.{absent, is, empty, keys, at, is_absent, bare, slot_is, opened, former, completed, same_sets, present};
 ghost use Rattle.attrs.specs.Packed.{says, env_of, packed, onto, with_at, update_at, changed, Got};
@@ -6,14 +7,14 @@ ghost use Rattle.attrs.specs.Packed.{says, env_of, packed, onto, with_at, update
 use sets::{bit_at, bit_of, rest, set_bit};
 
 // A key is there where its bit of the mask is set. The byte of an absent key is never read.
-#[derive(Drop)]
+#[derive(Clone, Copy)]
 pub struct Attrs {
     pub mask: u16,
     pub values: [u8; 16],
 }
 
 // Refusal 0 and the new set, or refusal 16 and the set as it was.
-#[derive(Drop)]
+#[derive(Clone, Copy)]
 pub struct Took {
     pub refusal: u32,
     pub attrs: Attrs,

@@ -9,7 +9,7 @@ use libc::STDIN_FILENO;
 use words::input::{Line, first_line, to_front};
 
 // The bytes from `start` up to `end` wait. `line` lines have begun; `long` while what comes is the rest of one that is too long.
-#[derive(Drop)]
+#[derive(Clone, Copy)]
 pub struct Place {
     pub start: usize,
     pub end: usize,

@@ -5,7 +5,7 @@ use layout::head::Head;
 use table::TableHead;
 
 // The heads of the sheet and of the table, and whether a call was made.
-#[derive(Drop)]
+#[derive(Clone, Copy)]
 pub struct State {
     pub head: Head,
     pub names: TableHead,

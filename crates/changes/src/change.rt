@@ -18,7 +18,7 @@ use layout::word::Content;
 use removal::remove_here;
 
 // The attribute set lies beside it.
-#[derive(Drop)]
+#[derive(Clone, Copy)]
 pub enum Change {
     PlainText { start: u32, len: u32 },
     PlainEmbed(u32),

@@ -9,7 +9,7 @@ use layout::head::Head;
 use layout::word::{Content, Item, is_live_mark, shown_len, unpack};
 
 // A place in the list: the next item and how many are left with it, the visible units to its left, and what is in force there.
-#[derive(Drop)]
+#[derive(Clone, Copy)]
 pub struct Spot {
     pub at: u32,
     pub todo: u32,
@@ -18,7 +18,7 @@ pub struct Spot {
 }
 
 // The run that was found last, and the place behind it.
-#[derive(Drop)]
+#[derive(Clone, Copy)]
 pub struct Cursor {
     pub spot: Spot,
     pub found: bool,

@@ -6,7 +6,7 @@ use attrs::Attrs;
 
 // `start` and `len` count visible units. `number` is the embed's, 0 for a text. `attrs` holds what is in force and not null, and
 // `count` is how many keys that are.
-#[derive(Drop)]
+#[derive(Clone, Copy)]
 pub struct Run {
     pub embed: bool,
     pub start: u32,

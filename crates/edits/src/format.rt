@@ -128,7 +128,7 @@ fn remembered_after(w: u64, turn: u32, attrs: Attrs, remembered: Attrs) -> Attrs
 }
 
 // Where the walk ended, and what is still to be put in force again there.
-#[derive(Drop)]
+#[derive(Clone, Copy)]
 struct Walked {
     head: Head,
     place: Place,

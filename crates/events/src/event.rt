@@ -9,7 +9,7 @@ use layout::head::Head;
 use soundness::sound;
 
 // How many operations and units were written; a refusal number, and 0 for both, where none were.
-#[derive(Drop)]
+#[derive(Clone, Copy)]
 pub struct EventAnswer {
     pub refusal: u32,
     pub ops: u32,

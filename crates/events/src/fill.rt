@@ -12,7 +12,7 @@ use layout::head::Head;
 use layout::word::{Content, unpack};
 
 // A part of the sheet's units.
-#[derive(Drop)]
+#[derive(Clone, Copy)]
 pub struct Piece {
     pub start: u32,
     pub len: u32,

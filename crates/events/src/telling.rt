@@ -7,7 +7,7 @@ use encoding::{Found, MaybeOp, write_op};
 use ops::delta::{DeltaOp, Op};
 
 // `kept` is `told` at the last operation that is no plain Retain: those behind it are dropped.
-#[derive(Drop)]
+#[derive(Clone, Copy)]
 pub struct Count {
     pub told: u32,
     pub kept: u32,

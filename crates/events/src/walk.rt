@@ -9,7 +9,7 @@ use assembling::runs::{inserted, seen_by};
 use layout::head::Head;
 use layout::word::unpack;
 
-#[derive(Drop)]
+#[derive(Clone, Copy)]
 pub struct Measure {
     pub ops: u32,
     pub units: u32,

@@ -5,7 +5,7 @@ use layout::head::Head;
 use layout::word::{Content, Item};
 
 // A sheet of up to six items, by their words, over up to four units.
-#[derive(Drop)]
+#[derive(Clone, Copy)]
 pub struct Sheet {
     pub head: Head,
     pub words: [u64; 6],
@@ -13,7 +13,7 @@ pub struct Sheet {
 }
 
 // How an item stands in the transaction.
-#[derive(Drop)]
+#[derive(Clone, Copy)]
 pub enum State {
     Kept,
     Added,

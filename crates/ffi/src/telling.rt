@@ -14,7 +14,7 @@ use ops::delta::{Delta, DeltaOp};
 use soundness::sound;
 
 // The delta that was read, and whether all of the numbers are operations.
-#[derive(Drop)]
+#[derive(Clone, Copy)]
 pub(crate) struct ReadDelta {
     pub ok: bool,
     pub delta: Delta,

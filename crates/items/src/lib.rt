@@ -1,4 +1,5 @@
 // The calls that change no place in the list: begin, the length, and the text of one item.
+#![tactic(auto)]
 ghost use Rattle.std.specs.Prelude.{◌≡◌, ◌≤◌, length};
 ghost use Rattle.rules.specs.Calls.{begin_now};
 ghost use Rattle.layout.specs.Memory.{carry};
@@ -9,13 +10,13 @@ use layout::word::{Content, Item, pack, unpack, width};
 use soundness::{measure, sound};
 
 // A refusal number, 0 for none, and the head that the sheet has afterwards.
-#[derive(Drop)]
+#[derive(Clone, Copy)]
 pub struct Answer {
     pub refusal: u32,
     pub head: Head,
 }
 
-#[derive(Drop)]
+#[derive(Clone, Copy)]
 pub struct Length {
     pub refusal: u32,
     pub len: u32,

@@ -3,7 +3,7 @@ use layout::head::Head;
 use layout::word::{Content, Item};
 
 // A sheet of three items, by their words, over four units.
-#[derive(Drop)]
+#[derive(Clone, Copy)]
 pub struct Small {
     pub head: Head,
     pub a: u64,

@@ -2,7 +2,7 @@
 ghost use Rattle.std.specs.Prelude.{◌≡◌};
 ghost use Rattle.layout.specs.Heads.{fresh_head, grown_head};
 
-#[derive(Drop)]
+#[derive(Clone, Copy)]
 pub struct Head {
     pub first: u32,
     pub items: u32,

@@ -1,3 +1,4 @@
 // How a sheet lies in its owner's buffers.
+#![tactic(auto)]
 pub mod word; // an item as one packed word
 pub mod head; // what is carried by value

@@ -3,7 +3,7 @@ ghost use Rattle.std.specs.Prelude.{◌≡◌, ◌<◌, ◌≤◌};
 ghost use Rattle.rules.specs.Sheet.{width, is_mark};
 ghost use Rattle.layout.specs.Word.{what_of, content_from, unpack_of, kind_of, payload_of, flag_of, pack_of, relink_of, in_range, kind_in, payload_in, shown_len, live_mark};
 
-#[derive(Drop)]
+#[derive(Clone, Copy)]
 pub enum Content {
     Text { start: u32, len: u32 },
     Embed(u32),
@@ -11,7 +11,7 @@ pub enum Content {
 }
 
 // `gone` says that the item was deleted in the current transaction.
-#[derive(Drop)]
+#[derive(Clone, Copy)]
 pub struct Item {
     pub next: u32,
     pub content: Content,

@@ -7,7 +7,7 @@ use words::numbers::{Number, read_number};
 use words::words::next_word;
 
 // An integer is told by its two's complement. The bytes of a name or a string are those of the line from `at` on.
-#[derive(Drop)]
+#[derive(Clone, Copy)]
 pub enum Entry {
     Name,
     String,
@@ -18,7 +18,7 @@ pub enum Entry {
     Wrong,
 }
 
-#[derive(Drop)]
+#[derive(Clone, Copy)]
 pub struct AskedEntry {
     pub entry: Entry,
     pub at: usize,

@@ -7,7 +7,7 @@ use attrs::Attrs;
 use words::numbers::{Number, read_number};
 use words::words::next_word;
 
-#[derive(Drop)]
+#[derive(Clone, Copy)]
 pub enum Call {
     // An empty line or a comment.
     Nothing,
@@ -30,7 +30,7 @@ pub enum Call {
 }
 
 // A call, how many units of its text lie in the lent ones, its set, and refusal 16 where no set takes one of its attributes.
-#[derive(Drop)]
+#[derive(Clone, Copy)]
 pub struct Asked {
     pub call: Call,
     pub count: usize,
@@ -39,7 +39,7 @@ pub struct Asked {
 }
 
 // What a line's letter wants behind it.
-#[derive(Drop)]
+#[derive(Clone, Copy)]
 pub enum Kind {
     Plain,
     Text,
@@ -113,7 +113,7 @@ fn kind_of(name: u8) -> Kind
     asking(name)
 }
 
-#[derive(Drop)]
+#[derive(Clone, Copy)]
 pub struct Numbered {
     pub number: Number,
     pub next: usize,

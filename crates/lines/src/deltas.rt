@@ -11,7 +11,7 @@ use words::numbers::Number;
 use words::words::next_word;
 
 // The operations so far, how many units of theirs lie in the lent ones, and refusal 16 where no set takes an attribute. `end` is as in `Fields`.
-#[derive(Drop)]
+#[derive(Clone, Copy)]
 pub struct AskedDelta {
     pub delta: Delta,
     pub at: usize,
@@ -21,7 +21,7 @@ pub struct AskedDelta {
 }
 
 // What an operation's letter wants behind it.
-#[derive(Drop)]
+#[derive(Clone, Copy)]
 pub enum Sort {
     Texts,
     Numbers,

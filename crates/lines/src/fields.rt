@@ -7,14 +7,14 @@ use words::numbers::{Piece, read_piece};
 use words::words::next_word;
 
 // What stands next: the end of the line, a `;`, or a word.
-#[derive(Drop)]
+#[derive(Clone, Copy)]
 pub enum Field {
     Line,
     Op,
     Word(Piece),
 }
 
-#[derive(Drop)]
+#[derive(Clone, Copy)]
 pub struct Read {
     pub field: Field,
     pub next: usize,
@@ -22,7 +22,7 @@ pub struct Read {
 
 // What was gathered: how many units lie in the lent ones, the set, refusal 16 where a key or a value was out of range.
 // `end` is 0 while there may be more, 1 at the end of the line, 2 behind a `;`, 3 at a word that does not belong here.
-#[derive(Drop)]
+#[derive(Clone, Copy)]
 pub struct Fields {
     pub at: usize,
     pub count: usize,

@@ -1,4 +1,5 @@
 // What numbers stand for, read back from the lent bytes.
+#![tactic(auto)]
 ghost use Rattle.std.specs.Prelude.{◌≡◌};
 ghost use Rattle.lookup.specs.Show.{given_name, given_value, shown_of, name_of, string_of};
 
@@ -7,7 +8,7 @@ use entries::slots::{content, kind_at, wide};
 use table::{BOOL, INT, TableHead, sound};
 
 // What a value's number stands for. The bytes of a string are shown by `string_bytes`.
-#[derive(Drop)]
+#[derive(Clone, Copy)]
 pub enum Shown {
     Nothing,
     Bool(bool),

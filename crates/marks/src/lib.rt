@@ -1,4 +1,5 @@
 // Marks around a place: which are passed, which are put.
+#![tactic(auto)]
 ghost use Rattle.std.specs.Prelude.{◌≡◌, ◌+◌, ◌/◌, ◌≤◌};
 ghost use Rattle.attrs.specs.Packed.{says};
 ghost use Rattle.layout.specs.Chain.{item_from};
@@ -65,7 +66,7 @@ pub fn put_marks(h: Head, items: &mut [u64], p: Place, set: Attrs) -> At
 }
 
 // A place behind marks that were put, and the values that were in force before them.
-#[derive(Drop)]
+#[derive(Clone, Copy)]
 pub struct Opened {
     pub head: Head,
     pub place: Place,
@@ -106,7 +107,7 @@ fn dropped(w: u64, remembered: Attrs) -> Attrs
 }
 
 // A place, and what is still to be put in force again there.
-#[derive(Drop)]
+#[derive(Clone, Copy)]
 struct Left {
     place: Place,
     remembered: Attrs,

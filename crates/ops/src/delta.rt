@@ -5,33 +5,33 @@ ghost use Rattle.ops.specs.Ops.{empty_delta, pushed};
 use attrs::Attrs;
 
 // A part of the lent units, or an embed.
-#[derive(Drop)]
+#[derive(Clone, Copy)]
 pub enum Inserted {
     Text { start: u32, len: u32 },
     Embed(u32),
 }
 
-#[derive(Drop)]
+#[derive(Clone, Copy)]
 pub enum Op {
     Insert(Inserted),
     Delete(u32),
     Retain(u32),
 }
 
-#[derive(Drop)]
+#[derive(Clone, Copy)]
 pub struct DeltaOp {
     pub op: Op,
     pub attrs: Attrs,
 }
 
-#[derive(Drop)]
+#[derive(Clone, Copy)]
 pub struct Delta {
     pub count: u32,
     pub ops: [DeltaOp; 256],
 }
 
 // Refusal 0 and the longer delta, or refusal 7 and the delta as it was.
-#[derive(Drop)]
+#[derive(Clone, Copy)]
 pub struct Pushed {
     pub refusal: u32,
     pub delta: Delta,

@@ -1,2 +1,3 @@
 // Operations and deltas by value.
+#![tactic(auto)]
 pub mod delta;

@@ -1,4 +1,5 @@
 // The visible units of a range, copied out: so a run's text can be had by its start and length.
+#![tactic(auto)]
 ghost use Rattle.std.specs.Prelude.{◌≡◌, ◌-◌, ◌<◌, ◌≤◌, min, length};
 ghost use Rattle.layout.specs.Word.{what_of};
 ghost use Rattle.runs.specs.Answers.{written};
@@ -11,7 +12,7 @@ use refusals::range_fault;
 use runs::calls::Count;
 
 // How many items are left from `at`, and how many visible units from there are passed over.
-#[derive(Drop)]
+#[derive(Clone, Copy)]
 pub struct Place {
     pub at: u32,
     pub todo: u32,
@@ -19,7 +20,7 @@ pub struct Place {
 }
 
 // A visible unit, 0 where there is none, and the place behind it.
-#[derive(Drop)]
+#[derive(Clone, Copy)]
 pub struct Shown {
     pub place: Place,
     pub unit: u16,

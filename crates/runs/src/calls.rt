@@ -9,13 +9,13 @@ use layout::head::Head;
 use soundness::sound;
 
 // A refusal number, 0 for none, and how many runs there are, or were written.
-#[derive(Drop)]
+#[derive(Clone, Copy)]
 pub struct Count {
     pub refusal: u32,
     pub count: usize,
 }
 
-#[derive(Drop)]
+#[derive(Clone, Copy)]
 pub enum Found {
     Here,
     Nothing,
@@ -23,7 +23,7 @@ pub enum Found {
 }
 
 // The run is blank unless there is one.
-#[derive(Drop)]
+#[derive(Clone, Copy)]
 pub struct RunAnswer {
     pub found: Found,
     pub run: Run,

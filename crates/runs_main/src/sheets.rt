@@ -39,7 +39,7 @@ pub fn head(first: u32, items: u32, units: u32) -> Head {
 }
 
 // At most five items, over the units a, b, c.
-#[derive(Drop)]
+#[derive(Clone, Copy)]
 pub struct Small {
     pub head: Head,
     pub words: [u64; 5],

@@ -1,8 +1,9 @@
 // Sets of keys as bits of a mask, and the walk over them.
+#![tactic(auto)]
 ghost use Rattle.std.specs.Prelude.{◌≡◌, ◌<◌, ◌^◌};
 ghost use Rattle.sets.specs.Bits.{keys_of, first_key, Rest, BitIs, BitSet};
 
-#[derive(Drop)]
+#[derive(Clone, Copy)]
 pub enum Key {
     At(u32),
     Nothing,

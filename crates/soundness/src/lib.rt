@@ -1,4 +1,5 @@
 // Whether a lent sheet is sound, and how long it is.
+#![tactic(auto)]
 ghost use Rattle.std.specs.Prelude.{◌≡◌, ◌<◌, ◌≤◌, length};
 ghost use Rattle.rules.specs.Sheet.{text};
 ghost use Rattle.layout.specs.Word.{what_of, content_from, shown_len};
@@ -94,7 +95,7 @@ fn shown_len(dead: bool, kind: u64, payload: u64) -> u32
 }
 
 // Whether a lent sheet is sound, and how many units and embeds are visible then.
-#[derive(Drop)]
+#[derive(Clone, Copy)]
 pub struct Measured {
     pub sound: bool,
     pub len: u32,

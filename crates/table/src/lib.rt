@@ -1,4 +1,5 @@
 // Names and values numbered in the order of first asking, in bytes that the caller lends.
+#![tactic(auto)]
 ghost use Rattle.std.specs.Prelude.{◌≡◌, ◌+◌, ◌<◌, ◌≤◌, length};
 ghost use Rattle.entries.specs.Entry.{entries};
 ghost use Rattle.table.specs.Value.{bool as boolValue, int as intValue, string as stringValue};
@@ -10,14 +11,14 @@ use entries::slots::{find, put, wide};
 use entries::soundness::shelf_sound;
 
 // How many names and values a table has; the entries are in the lent bytes.
-#[derive(Drop)]
+#[derive(Clone, Copy)]
 pub struct TableHead {
     pub names: u32,
     pub values: u32,
 }
 
 // A refusal number, or 0 with the number that was asked for and the head afterwards.
-#[derive(Drop)]
+#[derive(Clone, Copy)]
 pub struct Asked {
     pub refusal: u32,
     pub number: u32,
@@ -25,7 +26,7 @@ pub struct Asked {
 }
 
 // Where the entries of a kind stand.
-#[derive(Drop)]
+#[derive(Clone, Copy)]
 pub(crate) struct Shelf {
     pub from: u32,
     pub count: u32,
@@ -33,7 +34,7 @@ pub(crate) struct Shelf {
     pub first: u32,
 }
 
-#[derive(Drop)]
+#[derive(Clone, Copy)]
 pub(crate) enum Asking {
     Refused(u32),
     Known(u32),

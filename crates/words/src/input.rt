@@ -5,7 +5,7 @@ ghost use Rattle.words.specs.Input.{waiting, line_of, Moved};
 use crate::words::{Class, span};
 
 // Where the newline stands behind the first line that waits, counted from its start; or no newline is there yet.
-#[derive(Drop)]
+#[derive(Clone, Copy)]
 pub enum Line {
     Whole(usize),
     Part,

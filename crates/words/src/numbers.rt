@@ -4,14 +4,14 @@ ghost use Rattle.words.specs.Numbers.{digit_of, number_of, unit_of, pair_at, pie
 
 use crate::words::{Class, span};
 
-#[derive(Drop)]
+#[derive(Clone, Copy)]
 pub enum Number {
     Is(u32),
     Nothing,
 }
 
 // A unit of text, an attribute, or neither.
-#[derive(Drop)]
+#[derive(Clone, Copy)]
 pub enum Piece {
     Unit(u16),
     Pair { key: u32, value: u32 },

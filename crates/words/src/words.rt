@@ -3,7 +3,7 @@ ghost use Rattle.std.specs.Prelude.{◌≡◌, cond, not, eqb, ◌≤◌, length
 ghost use Rattle.words.specs.Words.{parts as Words·parts, passes as Words·passes, Spans, WordIs};
 
 // Which bytes a span goes over.
-#[derive(Drop)]
+#[derive(Clone, Copy)]
 pub enum Class {
     Space,
     Word,
@@ -59,7 +59,7 @@ pub fn span(s: &[u8], from: usize, class: Class) -> usize
     i
 }
 
-#[derive(Drop)]
+#[derive(Clone, Copy)]
 pub struct Word {
     pub start: usize,
     pub end: usize,

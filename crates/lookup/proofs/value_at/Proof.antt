@@ -46,7 +46,7 @@ unfolding shown_of value_at value_of case_of
 returns-2 c =
     let given = sym c.before.before.before.before.before.before.given-value.ensures ∙ not-false _ c.before.before.before.before.before.if1.false in
     let kind = rw c.before.before.before.before.wide.ensures at c.before.before.before.kind_at.ensures in
-    let number = rw (c.before.content.ensures, c.before.before.before.before.wide.ensures) at c.number_of_lem.ensures in
+    let number = rw (c.before.content.ensures, c.before.before.before.before.wide.ensures) at c.number-of.ensures in
     rw (given, ← kind, eq-eqb _ _ c.before.before.if2.true, number)
 
 content-requires-2 : tie.Need-content-requires-2

@@ -101,7 +101,7 @@ loop-less c = rw c.forward2.ensures (omega arith)
 loop-again : tie.Need-loop-preserved invariant-loop decreases-loop
 loop-again c =
     let on = c.before.before.before.before.before.before.before.before.before.before.before.before in
-    walked_on on.before.before.loop.invariant on.if1.true _ (sym c.before.before.before.before.before.before.before.before.before.before.turn-of.ensures) c.before.before.before.before.before.before.before.before.before.if2.false c.before.before.before.before.before.before.before.before.if3.false _ c.before.before.before.before.before.before.delete-if.ensures _ c.forward2.ensures _ c.before.before.before.left_After.ensures _ c.before.before.remembered-after.ensures
+    walked_on on.before.before.loop.invariant on.if1.true _ (sym c.before.before.before.before.before.before.before.before.before.before.turn-of.ensures) c.before.before.before.before.before.before.before.before.before.if2.false c.before.before.before.before.before.before.before.before.if3.false _ c.before.before.before.before.before.before.delete-if.ensures _ c.forward2.ensures _ c.before.before.before.left-after.ensures _ c.before.before.remembered-after.ensures
 
 same-length-3 : tie.Need-same-length-3 invariant-loop decreases-loop
 same-length-3 c = c.before.before.loop.invariant.stands.arena.long ∙ sym c.before.before.before.before.requires.0.arena.long

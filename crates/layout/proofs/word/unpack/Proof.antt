@@ -28,7 +28,7 @@ returns : tie.Need-returns
 returns c =
     let made = c.before.before.before.before in
     rw (
-      c.Gone-of.ensures,
+      c.gone-of.ensures,
       c.before.Added-of.ensures,
       c.before.before.dead-of.ensures,
       c.before.before.before.next_of.ensures,
