@@ -1,5 +1,6 @@
 // A working copy of a sheet's items, with room to spare, and the places in it.
 #![tactic(auto)]
+
 ghost use Rattle.std.specs.Prelude.{◌≡◌, false, ◌-◌, ◌<◌, ◌≤◌, length};
 ghost use Rattle.arena.specs.Places.{start_of, passed_force, forward_of, kept_place};
 

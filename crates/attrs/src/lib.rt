@@ -1,5 +1,6 @@
 // Attribute sets: for each key 0 to 15 absent, null (0) or a value 1 to 255. A set goes by value.
 #![tactic(auto)]
+
 ghost use Rattle.std.specs.Prelude.{◌≡◌, not, ◌<◌, length};
 ghost use Rattle.sets.specs.Sets.{absent, is, empty, keys, at, is_absent, bare, slot_is, opened, former, completed, same_sets, present};
 ghost use Rattle.attrs.specs.Packed.{says, env_of, packed, onto, with_at, update_at, changed, Got};

@@ -1,5 +1,6 @@
 // The calls of `attrs` at their limits: each check is proved from the promises, and run.
 #![tactic(auto)]
+
 ghost use Rattle.std.specs.Prelude.{◌≡◌};
 ghost use Rattle.sets.specs.Sets.{keys, present};
 ghost use Rattle.attrs.specs.Packed.{says, env_of};

@@ -1,5 +1,6 @@
 // Reads one call a line from standard input, and writes `refused N` for each refused one; at the end the length and the joined runs.
 #![tactic(auto)]
+
 mod say; // what is written
 mod letters; // text as a person reads it
 mod answer; // the length, runs, items and the event of a sheet

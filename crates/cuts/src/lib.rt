@@ -1,5 +1,6 @@
 // Whether an index into the visible text falls inside a surrogate pair. Pieces hold no half pairs, so one piece decides.
 #![tactic(auto)]
+
 ghost use Rattle.std.specs.Prelude.{◌≡◌, length};
 ghost use Rattle.units.specs.Surrogates.{splits_pair};
 ghost use Rattle.rules.specs.Calls.{visible_units};

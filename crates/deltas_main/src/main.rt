@@ -1,6 +1,7 @@
 // Deltas at their limits: of each, the refusal, the length, how many items and units are in use, and the list item by item, each
 // item with its number (`-` behind the number: deleted), units in four hexadecimal digits.
 #![tactic(auto)]
+
 use attrs::Attrs;
 use deltas::apply::apply_delta;
 use items::{Answer, len, text_of};

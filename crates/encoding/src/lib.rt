@@ -1,6 +1,7 @@
 // An operation in lent numbers: eight to each, namely its kind (1 text, 2 embed, 3 delete, 4 retain), a start or number, a length,
 // the key mask, and the sixteen values, four to a number.
 #![tactic(auto)]
+
 ghost use Rattle.std.specs.Prelude.{◌≡◌, ◌+◌, ◌*◌, ◌/◌, ◌%◌, ◌<◌, ◌≤◌, length};
 ghost use Rattle.std.proofs.lemmas.List.Edits.{sets};
 ghost use Rattle.encoding.specs.Words.{bytes_of, four, meant_by, found_at, kind_of, first_of, second_of, words_of};

@@ -1,6 +1,7 @@
 // Runs the event call at its limits. A line for each call: what the sheet is, the refusal, how many operations and units; then a line
 // for each operation's numbers, and one for the units. The first number and unit behind what is written is shown too: 9, as lent.
 #![tactic(auto)]
+
 mod sheets;
 
 use layout::head::Head;

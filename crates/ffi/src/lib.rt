@@ -2,6 +2,7 @@
 // What else it answers comes back through lent numbers, which are always written: 0 where the call is refused. Lent slices stay as
 // they were then.
 #![tactic(auto)]
+
 mod heads; // what is carried by value, in lent numbers
 mod changing; // the calls that change a sheet
 mod reading; // what is read of a sheet

@@ -1,5 +1,6 @@
 // The calls that change no place in the list: begin, the length, and the text of one item.
 #![tactic(auto)]
+
 ghost use Rattle.std.specs.Prelude.{◌≡◌, ◌≤◌, length};
 ghost use Rattle.rules.specs.Calls.{begin_now};
 ghost use Rattle.layout.specs.Memory.{carry};

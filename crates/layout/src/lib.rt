@@ -1,4 +1,5 @@
 // How a sheet lies in its owner's buffers.
 #![tactic(auto)]
+
 pub mod word; // an item as one packed word
 pub mod head; // what is carried by value

@@ -1,5 +1,6 @@
 // The program's lines: what a line asks for.
 #![tactic(auto)]
+
 mod fields; // the units and attributes of a line
 pub mod calls; // the call of a line
 pub mod deltas; // the operations of a delta

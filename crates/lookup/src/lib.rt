@@ -1,5 +1,6 @@
 // What numbers stand for, read back from the lent bytes.
 #![tactic(auto)]
+
 ghost use Rattle.std.specs.Prelude.{◌≡◌};
 ghost use Rattle.lookup.specs.Show.{given_name, given_value, shown_of, name_of, string_of};
 

@@ -1,5 +1,6 @@
 // Marks around a place: which are passed, which are put.
 #![tactic(auto)]
+
 ghost use Rattle.std.specs.Prelude.{◌≡◌, ◌+◌, ◌/◌, ◌≤◌};
 ghost use Rattle.attrs.specs.Packed.{says};
 ghost use Rattle.layout.specs.Chain.{item_from};

@@ -1,3 +1,4 @@
 // Operations and deltas by value.
 #![tactic(auto)]
+
 pub mod delta;

@@ -1,5 +1,6 @@
 // The visible units of a range, copied out: so a run's text can be had by its start and length.
 #![tactic(auto)]
+
 ghost use Rattle.std.specs.Prelude.{◌≡◌, ◌-◌, ◌<◌, ◌≤◌, min, length};
 ghost use Rattle.layout.specs.Word.{what_of};
 ghost use Rattle.runs.specs.Answers.{written};

@@ -1,5 +1,6 @@
 // The refusals that only read, by number; 0 for none. The sheet is sound.
 #![tactic(auto)]
+
 ghost use Rattle.std.specs.Prelude.{◌≡◌, true, cond, not};
 ghost use Rattle.units.specs.Surrogates.{paired, splits_pair};
 ghost use Rattle.rules.specs.Reading.{visible};

@@ -1,5 +1,6 @@
 // Removing: units deleted from a place on, and marks that then do nothing.
 #![tactic(auto)]
+
 ghost use Rattle.std.specs.Prelude.{◌≡◌, cond, ◌/◌, ◌-◌, ◌<◌, ◌≤◌, length};
 ghost use Rattle.attrs.specs.Packed.{env_of};
 ghost use Rattle.rules.specs.Sheet.{mark, is_mark};

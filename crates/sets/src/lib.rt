@@ -1,5 +1,6 @@
 // Sets of keys as bits of a mask, and the walk over them.
 #![tactic(auto)]
+
 ghost use Rattle.std.specs.Prelude.{◌≡◌, ◌<◌, ◌^◌};
 ghost use Rattle.sets.specs.Bits.{keys_of, first_key, Rest, BitIs, BitSet};
 

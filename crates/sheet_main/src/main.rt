@@ -1,6 +1,7 @@
 // Bench pieces over the real calls: of each, the refusal, the length, and the list item by item, each item with its number
 // (`-` behind the number: deleted).
 #![tactic(auto)]
+
 use attrs::Attrs;
 use items::{Answer, len, text_of};
 use layout::head::Head;

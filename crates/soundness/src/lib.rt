@@ -1,5 +1,6 @@
 // Whether a lent sheet is sound, and how long it is.
 #![tactic(auto)]
+
 ghost use Rattle.std.specs.Prelude.{◌≡◌, ◌<◌, ◌≤◌, length};
 ghost use Rattle.rules.specs.Sheet.{text};
 ghost use Rattle.layout.specs.Word.{what_of, content_from, shown_len};

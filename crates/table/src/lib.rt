@@ -1,5 +1,6 @@
 // Names and values numbered in the order of first asking, in bytes that the caller lends.
 #![tactic(auto)]
+
 ghost use Rattle.std.specs.Prelude.{◌≡◌, ◌+◌, ◌<◌, ◌≤◌, length};
 ghost use Rattle.entries.specs.Entry.{entries};
 ghost use Rattle.table.specs.Value.{bool as boolValue, int as intValue, string as stringValue};

@@ -1,5 +1,6 @@
 // Runs every call of `table` at its limits, and writes a line for each answer: the call's letter, the refusal and the number.
 #![tactic(auto)]
+
 mod broken;
 mod print;
 

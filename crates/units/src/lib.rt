@@ -1,5 +1,6 @@
 // UTF-16 units: which are halves of a surrogate pair, whether a text is whole, and whether an index cuts a pair.
 #![tactic(auto)]
+
 ghost use Rattle.std.specs.Prelude.{◌≡◌, ◌||◌, eqb};
 ghost use Rattle.units.specs.Kinds.{kind_of};
 ghost use Rattle.units.specs.Surrogates.{is_high, is_low, paired, splits_pair, halves};

@@ -1,6 +1,7 @@
 // Runs the calls of `units` at their limits. A line for each text: is it whole, then whether 0, 1, 2, 3, 4 and the largest
 // index split a pair. Then three lines over eight units: kinds, high ones, low ones.
 #![tactic(auto)]
+
 use units::Kind;
 
 fn put(answer: bool) {

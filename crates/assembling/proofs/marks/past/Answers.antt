@@ -1,0 +1,6 @@
+-- `assembling::marks::past` meets its contract. Assumes nothing.
+use borrow.Author.Rules.{rules}
+use Rattle.assembling.proofs.marks.past.Goals as goal
+
+pub returns-then-seen : goal.returns-then-seen
+returns-then-seen c = cc

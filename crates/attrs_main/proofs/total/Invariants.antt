@@ -1,0 +1,18 @@
+use mathlib.Core.Path.{◌≡◌, sym, ap, ◌∙◌}
+use Prim.Native.Nat.{◌+◌, ◌*◌, ◌≤◌}
+use native.Mathlib.Omega.{arith}
+use borrow.Author.Rules.{rules}
+use lib.ListN.{length}
+use Rattle.sets.specs.Bits.{keys_of}
+use Rattle.attrs.specs.Packed.{env_of}
+use Rattle.sets.proofs.Keys.{keys_none, keys-le, first-nothing}
+use Rattle.attrs.proofs.Slots.{Part, part_all, Turn, turn-lowest, present-keys}
+use Rattle.attrs_main.specs.Sum.{sum_of}
+use Rattle.attrs_main.proofs.total.Given as goal
+
+-- what is summed and what is left make the whole; a key adds at most 255
+abbrev pub invariant-loop-k : goal.invariant-loop-k
+invariant-loop-k l = Part l.a.mask l.left × (l.sum + sum_of (env_of l.a) (keys_of l.left) ≡ sum_of (env_of l.a) (keys_of l.a.mask)) × (l.sum + 255 * length (keys_of l.left) ≤ 4080)
+
+abbrev pub decreases-loop-k : goal.decreases-loop-k
+decreases-loop-k l = l.left

@@ -1,0 +1,6 @@
+use Rattle.std.proofs.Common.{◌≡◌, length, refl, arith, rules}
+use Rattle.calls.specs.Waits.{Waits}
+use Rattle.calls.proofs.input.all_lines.Goals as goal
+
+pub loop-turns-init : goal.loop-turns-init
+loop-turns-init c = (record { order = omega arith; within = omega arith }, refl, refl, refl, refl, refl)

@@ -1,0 +1,6 @@
+-- `cursors::cursor::embed_run` meets its contract. Assumes nothing.
+use borrow.Author.Rules.{rules}
+use Rattle.cursors.proofs.cursor.embed_run.Goals as goal
+
+pub returns : goal.returns
+returns c = cc

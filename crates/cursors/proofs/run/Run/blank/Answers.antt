@@ -1,0 +1,6 @@
+-- `cursors::run::Run::blank` meets its contract. Assumes nothing.
+use borrow.Author.Rules.{rules}
+use Rattle.cursors.proofs.run.Run.blank.Goals as goal
+
+pub returns : goal.returns
+returns c = cc

@@ -1,0 +1,15 @@
+-- `cuts::cuts_pair` meets its contract: units without a half are not cut, else the walk decides. Assumes nothing.
+use mathlib.Core.Path.{sym, ◌∙◌}
+use borrow.Author.Rules.{rules}
+use borrow.Author.Tests.{eqb-true}
+use Rattle.layout.specs.Memory.{list_of}
+use Rattle.cuts.proofs.Bare.{none-cut}
+use Rattle.cuts.proofs.cuts_pair.Goals as goal
+
+pub returns-then-is_plain : goal.returns-then-is_plain
+returns-then-is_plain c =
+    let a = c.args in
+    sym (none-cut a.used.now (list_of a.h a.items.now) a.index (eqb-true _ _ (sym c.is_plain.ensures ∙ c.if-is_plain.true)))
+
+pub returns : goal.returns
+returns c = c.falls_in_pair.ensures

@@ -1,0 +1,10 @@
+-- `deltas::faults::retain_fault` meets its contract. Assumes nothing.
+use mathlib.Core.Path.{sym, ◌∙◌}
+use borrow.Author.Rules.{rules}
+use Rattle.deltas.proofs.faults.retain_fault.Goals as goal
+
+pub returns-then-cuts_pair : goal.returns-then-cuts_pair
+returns-then-cuts_pair c = rw (sym c.cuts_pair.ensures ∙ c.if-cuts_pair.true)
+
+pub returns : goal.returns
+returns c = rw (sym c.cuts_pair.ensures ∙ c.if-cuts_pair.false)

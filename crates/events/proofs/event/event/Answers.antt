@@ -1,0 +1,62 @@
+-- `events::event::event` meets its contract. Assumes nothing.
+use borrow.Author.Rules.{rules}
+use native.Mathlib.Omega.{arith}
+use mathlib.Core.Path.{refl, sym, ap₂, ◌∙◌}
+use Prim.Native.Nat.{ℕ}
+use borrow.Author.Tests.{not-true, not-false}
+use Rattle.layout.proofs.Soundness.{sound-parts}
+use Rattle.events.proofs.Events.{walkable, given-broken, same, ops-is, units-is, no_words, no-units, all-fits, wrote, text-room, filled}
+use Rattle.events.proofs.event.event.Goals as goal
+
+pub returns-then-not-sound : goal.returns-then-not-sound
+returns-then-not-sound c =
+    let a = c.args in
+    rw (given-broken a.h a.items.now a.units.now _ _ (sym c.sound.ensures ∙ not-true _ c.if-not-sound.true)) (c.refuse.ensures, (refl, refl))
+
+pub walk-m-requires : goal.walk-m-requires
+walk-m-requires c =
+    let a = c.args in
+    let ok = sym c.sound.ensures ∙ not-false _ c.if-not-sound.false in
+    record { walkable = walkable a.h a.items.now a.units.now ok; limit_in_bounds = omega arith }
+
+pub returns-then-m-ops : goal.returns-then-m-ops
+returns-then-m-ops c =
+    let a = c.args in
+    let ok = sym c.sound.ensures ∙ not-false _ c.if-not-sound.false in
+    let k = c.walk-m.ensures in
+    rw (no_words a.h a.items.now a.units.now ok _ a.out.now _ _ k c.if-m-ops.true) (c.refuse-then-m-ops.ensures, (same a.h a.items.now a.units.now ok _ a.out.now _ _ k, refl))
+
+pub returns-then-m-out : goal.returns-then-m-out
+returns-then-m-out c =
+    let a = c.args in
+    let ok = sym c.sound.ensures ∙ not-false _ c.if-not-sound.false in
+    let k = c.walk-m.ensures in
+    rw (no-units a.h a.items.now a.units.now ok _ a.out.now _ _ k c.if-m-ops.false c.if-m-out.true) (c.refuse-then-m-out.ensures, (same a.h a.items.now a.units.now ok _ a.out.now _ _ k, refl))
+
+pub walk-requires : goal.walk-requires
+walk-requires c =
+    let a = c.args in
+    let ok = sym c.sound.ensures ∙ not-false _ c.if-not-sound.false in
+    record { walkable = walkable a.h a.items.now a.units.now ok; limit_in_bounds = c.if-m-ops.false }
+
+pub fill-requires : goal.fill-requires
+fill-requires c =
+    let a = c.args in
+    let ok = sym c.sound.ensures ∙ not-false _ c.if-not-sound.false in
+    let s = sound-parts a.h a.items.now a.units.now ok in
+    record { walkable = walkable a.h a.items.now a.units.now ok; units_in_bounds = omega (arith, s.room, s.used); in_bounds = text-room a.h a.items.now a.units.now ok _ a.out.now _ _ c.walk-m.ensures c.if-m-out.false }
+
+pub returns : goal.returns
+returns c =
+    let a = c.args in
+    let ok = sym c.sound.ensures ∙ not-false _ c.if-not-sound.false in
+    let k = c.walk-m.ensures in
+    let l = c.if-m-ops.false in
+    let n = c.if-m-out.false in
+    rw (all-fits a.h a.items.now a.units.now ok _ a.out.now _ _ k l n) (
+      ap₂ (λ (x y : ℕ). record { refusal = 0; ops = x; units = y }) (ops-is a.h a.items.now a.units.now ok _ a.out.now _ _ k) (units-is a.h a.items.now a.units.now ok _ a.out.now _ _ k),
+      (
+        wrote a.h a.items.now a.units.now ok _ a.out.now _ _ k l _ _ c.walk.ensures,
+        filled a.h a.items.now a.units.now ok _ a.out.now _ _ k n _ c.fill.ensures,
+      ),
+    )

@@ -1,0 +1,15 @@
+use native.Mathlib.Omega.{arith}
+use Prim.Native.Nat.{ℕ, ◌+◌, ◌<◌}
+use mathlib.Core.Path.{◌≡◌, refl, ap, ◌∙◌}
+use lib.ListN.{length}
+use Rattle.layout.proofs.Links.{walks-lt}
+use Rattle.assembling.proofs.Pendings.{inserted-le}
+use Rattle.events.proofs.Going.{Walking, walking_start, walking-step, walking-end, wide, told-one, told-long}
+use borrow.Author.Rules.{rules}
+use Rattle.events.proofs.walk.walk.Given as goal
+
+abbrev pub invariant-loop-k : goal.invariant-loop-k
+invariant-loop-k l = Walking l.back l.limit l.items l.initial.ops l.ops l.a l.n l.at l.k l.initial.at l.initial.k
+
+abbrev pub decreases-loop-k : goal.decreases-loop-k
+decreases-loop-k l = l.k

@@ -1,0 +1,13 @@
+use Prim.Native.Nat.{◌-◌, ◌≤◌}
+use native.Mathlib.Omega.{arith}
+use mathlib.Core.Path.{◌≡◌, refl, sym, ◌∙◌}
+use lib.ListN.{length, drop, length-set}
+use lib.Seq.{sets}
+use Rattle.ffi.proofs.Fronts.{front-is, front-more, front-end}
+use Rattle.ffi.proofs.naming.copy_front.Given as goal
+
+abbrev pub invariant-loop-i : goal.invariant-loop-i
+invariant-loop-i l = (l.i ≤ length l.bytes) × (length l.out ≡ length l.initial.out) × (sets l.out l.i (drop l.i l.bytes) ≡ sets l.initial.out 0 l.bytes)
+
+abbrev pub decreases-loop-i : goal.decreases-loop-i
+decreases-loop-i l = length l.bytes - l.i

@@ -1,0 +1,43 @@
+-- `items::text_of` meets its contract, by the cases of `Showing`. Assumes nothing.
+use native.Mathlib.Omega.{arith}
+use mathlib.Core.Path.{◌≡◌, sym, ◌∙◌}
+use mathlib.Core.Bool.{true}
+use borrow.Author.Tests.{not-true, not-false}
+use Rattle.layout.specs.Memory.{sound_of}
+use Rattle.layout.proofs.Soundness.{sound-parts}
+use Rattle.items.proofs.Showing.{text-broken, text-unused, text-is, text-room, text-part}
+use borrow.Author.Rules.{rules}
+use Rattle.items.proofs.text_of.Goals as goal
+use Rattle.items.proofs.text_of.Goals.{After-struct_known-1, Else-n-h}
+
+-- where the item is read: the sheet is sound, and the number is used
+sound-here : (c : Else-n-h) → (
+    let a = c.args in
+    sound_of a.h a.items.now a.units.now ≡ true
+    )
+sound-here c = sym c.sound.ensures ∙ not-false _ c.if-not-sound.false
+
+pub returns-then-not-sound : goal.returns-then-not-sound
+returns-then-not-sound c = text-broken _ _ _ _ (sym c.sound.ensures ∙ not-true _ c.if-not-sound.true)
+
+pub returns-then-n-h : goal.returns-then-n-h
+returns-then-n-h c = text-unused _ _ _ _ (sym c.sound.ensures ∙ not-false _ c.if-not-sound.false) (omega arith)
+
+pub bounds-items-i : goal.bounds-items-i
+bounds-items-i c =
+    let s = sound-parts _ _ _ (sound-here (goal.at.bounds-items-i c).Else-n-h) in
+    omega (arith, s.words, s.items)
+
+pub slice_bounds-result-end-in-Text : goal.slice_bounds-result-end-in-Text
+slice_bounds-result-end-in-Text c = omega (arith, text-room _ _ _ _ _ _ _ (sound-here (goal.at.slice_bounds-result-end-in-Text c).Else-n-h) c.if-n-h.false c.unpack-it.ensures c.in-Text.is)
+
+pub returns-in-Text : goal.returns-in-Text
+returns-in-Text c =
+    let g = c.in-Text.given.0 in
+    text-part c.args.units.now g.0 g.1.0 ∙ sym (text-is _ _ _ _ _ _ (sound-here (goal.at.returns-in-Text c).Else-n-h) c.if-n-h.false c.unpack-it.ensures c.in-Text.is)
+
+pub returns-in-Embed : goal.returns-in-Embed
+returns-in-Embed c = sym (text-is _ _ _ _ _ _ (sound-here (goal.at.returns-in-Embed c).After-struct_known-1) c.if-n-h.false c.unpack-it.ensures c.in-Embed.is)
+
+pub returns-in-Mark : goal.returns-in-Mark
+returns-in-Mark c = sym (text-is _ _ _ _ _ _ (sound-here (goal.at.returns-in-Mark c).After-struct_known-1) c.if-n-h.false c.unpack-it.ensures c.in-Mark.is)

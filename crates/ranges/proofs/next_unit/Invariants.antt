@@ -1,0 +1,15 @@
+use Rattle.layout.specs.Chain.{item_at}
+use Prim.Native.Nat.{◌<◌}
+use native.Mathlib.Omega.{arith}
+use mathlib.Core.Path.{◌≡◌, refl, ◌∙◌}
+use lib.ListN.{length}
+use borrow.Author.Rules.{rules}
+use Rattle.ranges.specs.Texts.{showing, Reads}
+use Rattle.ranges.proofs.Texts.{place, width_of, reads_at, reads_none, reads-below, reads-lies, reads-next, shows-none, shows-pass, shows-here, given-here, given-none}
+use Rattle.ranges.proofs.next_unit.Given as goal
+
+abbrev pub invariant-loop-todo : goal.invariant-loop-todo
+invariant-loop-todo l = Reads l.items l.units (place l.at l.todo l.off) × (showing l.items l.units (place l.initial.at l.initial.todo l.initial.off) ≡ showing l.items l.units (place l.at l.todo l.off))
+
+abbrev pub decreases-loop-todo : goal.decreases-loop-todo
+decreases-loop-todo l = l.todo

@@ -1,0 +1,10 @@
+-- `refusals::in_pair` meets its contract. Assumes nothing.
+use Rattle.cuts.proofs.Sounds.{used-is, sound-reads}
+use borrow.Author.Rules.{rules}
+use Rattle.refusals.proofs.in_pair.Goals as goal
+
+pub slice_bounds-cuts_pair-end : goal.slice_bounds-cuts_pair-end
+slice_bounds-cuts_pair-end c = used-is _ _ _ c.requires
+
+pub cuts_pair-requires : goal.cuts_pair-requires
+cuts_pair-requires c = sound-reads _ _ _ c.requires

@@ -1,0 +1,22 @@
+use Prim.Native.Nat.{suc, ◌-◌, ◌<◌}
+use Rattle.arena.specs.declared.Place.{Place}
+use mathlib.Core.Path.{◌≡◌, sym, ap, ◌∙◌}
+use native.Mathlib.Omega.{arith}
+use borrow.Author.Rules.{rules}
+use lib.ListN.{length}
+use Rattle.layout.specs.declared.head.Head.{Head}
+use Rattle.arena.specs.Places.{Standing, Going}
+use Rattle.arena.proofs.Carried.{going_start}
+use Rattle.arena.proofs.Standing.{right_lt}
+use Rattle.attrs.specs.Packed.{env_of}
+use Rattle.removal.specs.Tidies.{tidy_first}
+use Rattle.removal.proofs.Gaps.{tidied-past, tidied-all}
+use Rattle.removal.proofs.tidy_until.Given as goal
+
+abbrev pub invariant-loop-at : goal.invariant-loop-at
+invariant-loop-at l =
+    (h : Head) → Standing h l.initial.items l.initial.at
+    → Going (tidy_first (l.initial.at.todo - l.stop) (env_of l.start) (env_of l.end)) h l.initial.items l.initial.at (tidy_first (l.at.todo - l.stop) (env_of l.start) (env_of l.end)) h l.items l.at
+
+abbrev pub decreases-loop-at : goal.decreases-loop-at
+decreases-loop-at l = l.at.todo

@@ -1,0 +1,14 @@
+use Prim.Native.Nat.{ℕ}
+use native.Mathlib.Omega.{arith}
+use mathlib.Core.Path.{◌≡◌, refl, sym, ap, ◌∙◌}
+use lib.ListN.{drop}
+use borrow.Author.Tests.{not-true, not-false}
+use Rattle.cursors.specs.Cursors.{Stands, found}
+use Rattle.runs.proofs.Tallies.{drop_more, drop-none}
+use Rattle.runs.proofs.calls.nth.Given as goal
+
+abbrev pub invariant-loop-k : goal.invariant-loop-k
+invariant-loop-k l = Stands l.items l.c.spot × (drop l.k (found l.joined l.items l.c) ≡ drop l.initial.k (found l.joined l.items l.initial.c))
+
+abbrev pub decreases-loop-k : goal.decreases-loop-k
+decreases-loop-k l = l.k

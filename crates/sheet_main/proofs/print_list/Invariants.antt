@@ -1,0 +1,9 @@
+use Prim.Native.Nat.{◌≤◌}
+use borrow.Author.Rules.{rules}
+use Rattle.sheet_main.proofs.print_list.Given as goal
+
+abbrev pub invariant-loop-k : goal.invariant-loop-k
+invariant-loop-k l = l.k ≤ l.initial.k
+
+abbrev pub decreases-loop-k : goal.decreases-loop-k
+decreases-loop-k l = l.k

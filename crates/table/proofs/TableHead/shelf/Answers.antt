@@ -1,0 +1,12 @@
+-- `table::TableHead::shelf` meets its contract. Assumes nothing.
+use borrow.Author.Tests.{eq-eqb, ne_eqb}
+use Rattle.table.specs.Ask.{shelf_of}
+use Rattle.table.proofs.TableHead.shelf.Goals as goal
+
+pub returns-then-kind-eq-NAME : goal.returns-then-kind-eq-NAME
+unfolding shelf_of
+returns-then-kind-eq-NAME c = simp (eq-eqb _ _ c.if-kind-eq-NAME.true)
+
+pub returns : goal.returns
+unfolding shelf_of
+returns c = simp (ne_eqb _ _ c.if-kind-eq-NAME.false)

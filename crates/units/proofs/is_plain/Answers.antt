@@ -1,0 +1,35 @@
+-- `units::is_plain` meets its contract. The invariant: what is left to look at decides, unless a half was met. Assumes nothing.
+use Prim.Native.Nat.{◌≤◌, ◌-◌}
+use native.Mathlib.Omega.{arith}
+use mathlib.Core.Path.{refl, sym, ◌∙◌}
+use mathlib.Core.Logic.{⊎_elim}
+use borrow.Author.Rules.{rules}
+use lib.ListN.{length}
+use Rattle.units.proofs.Plain.{Looked, looked-half, looked-plain, looked-all}
+use Rattle.units.proofs.is_plain.Goals as goal
+
+pub loop-i-init : goal.loop-i-init
+loop-i-init c = (omega arith, refl)
+
+pub offset_bounds-units-i : goal.offset_bounds-units-i
+offset_bounds-units-i c = omega arith
+
+pub bounds-units-i : goal.bounds-units-i
+bounds-units-i c = omega arith
+
+pub overflow_add-i : goal.overflow_add-i
+overflow_add-i c = omega arith
+
+pub loop-i-smaller : goal.loop-i-smaller
+loop-i-smaller c = omega arith
+
+pub loop-i-preserved : goal.loop-i-preserved
+loop-i-preserved c =
+    let us = c.args.units.now in
+    let half = sym c.is_half.ensures in
+    let more = c.loop-i-test.true in
+    let at = c.loop-i in
+    (omega arith, ⊎_elim (λ w. looked-half us at.i at.plain at.invariant.1 more _ (half ∙ w.0.taken) w.1) (λ w. looked-plain us at.i at.plain at.invariant.1 more _ (half ∙ w.0.left) w.1) c.if-is_half.branch)
+
+pub returns : goal.returns
+returns c = looked-all _ _ _ c.loop-i.invariant.1 c.loop-i-test.false

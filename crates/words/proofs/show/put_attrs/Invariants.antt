@@ -1,0 +1,10 @@
+use borrow.Author.Rules.{rules}
+use native.Mathlib.Omega.{arith}
+use Rattle.words.proofs.Writing.{Listing, listing_start, listing_step, listing-done, listing-room}
+use Rattle.words.proofs.show.put_attrs.Given as goal
+
+abbrev pub invariant-loop-left : goal.invariant-loop-left
+invariant-loop-left l = Listing l.set l.initial.out l.out l.n l.at l.left
+
+abbrev pub decreases-loop-left : goal.decreases-loop-left
+decreases-loop-left l = l.left

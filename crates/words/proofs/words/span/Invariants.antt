@@ -1,0 +1,11 @@
+use Prim.Native.Nat.{◌-◌}
+use native.Mathlib.Omega.{arith}
+use lib.ListN.{length}
+use Rattle.words.proofs.Spans.{Spanning, spanning-start, spanning-end, spanning-stop, spanning-step}
+use Rattle.words.proofs.words.span.Given as goal
+
+abbrev pub invariant-loop-i : goal.invariant-loop-i
+invariant-loop-i l = Spanning l.class l.s l.from l.i
+
+abbrev pub decreases-loop-i : goal.decreases-loop-i
+decreases-loop-i l = length l.s - l.i
