@@ -13,9 +13,9 @@ pub returns-then-is_high : goal.returns-then-is_high
 returns-then-is_high c =
     let past : 0 < c.args.index = omega arith in
     let high = sym c.is_high.ensures ∙ c.if-is_high.true in
-    c.is_low.ensures ∙ sym (splits-high _ _ past high)
+    c.is_low.ensures ∙ sym (splits-high c.args.units.now _ past high)
 
 pub returns-else-is_high : goal.returns-else-is_high
 returns-else-is_high c =
     let past : 0 < c.args.index = omega arith in
-    c.if-is_high.false ∙ sym (splits-plain _ _ past (sym c.is_high.ensures ∙ c.if-is_high.false))
+    c.if-is_high.false ∙ sym (splits-plain c.args.units.now _ past (sym c.is_high.ensures ∙ c.if-is_high.false))
