@@ -15,7 +15,7 @@ use Rattle.rules.specs.Reading.{Glyph, seen_glyphs, Op, insert, delete, retain}
 use Rattle.rules.specs.Places.{whole, Move}
 use Rattle.rules.specs.Edits.{by_index, plain_text, plain_embed, insert_with, format}
 use Rattle.rules.specs.Sound.{Fits, AllFit}
-use Rattle.rules.specs.Calls.{Sheet, unit_at, visible_units, bad_range, too_long, Body, words, object, Call, insert_text, insert_text_with, insert_embed, insert_embed_with, format_range, remove_range, apply_delta, laid_out, new_units}
+use Rattle.rules.specs.Calls.{begin_now, Sheet, unit_at, visible_units, bad_range, too_long, Body, words, object, Call, insert_text, insert_text_with, insert_embed, insert_embed_with, format_range, remove_range, apply_delta, laid_out, new_units}
 use Rattle.rules.specs.Rulings.{Ruling, seen, text_ruling, embed_ruling, ruling, Byte, FineOps, FineCall, Edit, NoFault, end, on}
 use Rattle.laws.proofs.Lists.{or_left, or_right}
 use Rattle.laws.proofs.Grown.{Grown, same, Fresh, embeds, texts}
@@ -118,20 +118,21 @@ module _ (old all : List ℕ) (l : List Item) (clean : (n : ℕ) → splits_pair
   onward : (ops : List (Op Body)) (c n u u' : ℕ) → Out ops (min (length (visible_units old l)) (c + n)) u u' → LaidOut Byte (CutOk all) (NewIn all) (laid_out u ops) (drop n (drop c (seen_glyphs l))) u u'
   onward ops c n u u' o = subst (λ (z : List Glyph). LaidOut Byte (CutOk all) (NewIn all) (laid_out u ops) z u u') (on-drop old l c n) o
 
-  laid_out : (ops : List (Op Body)) (c : ℕ) (pre : List ℕ) (u u' : ℕ) → FineOps ops → NoFault (visible_units old l) c ops → all ≡ pre ++ new_units ops → length pre ≡ u → u + length (new_units ops) ≡ u' → Out ops c u u'
-  laid_out [] c pre u u' f k d e r = subst (λ (x : ℕ). LaidOut Byte (CutOk all) (NewIn all) [] (drop c (seen_glyphs l)) u x) (sym (add-zero u) ∙ r) Growth.end
-  laid_out (insert (words t) a ∷ ops) c pre u u' f (on q k) d e r =
+  laid_out_lem : (ops : List (Op Body)) (c : ℕ) (pre : List ℕ) (u u' : ℕ) → FineOps ops → NoFault (visible_units old l) c ops → all ≡ pre ++ new_units ops → length pre ≡ u → u + length (new_units ops) ≡ u' → Out ops c u u'
+  laid_out_lem [] c pre u u' f k d e r = subst (λ (x : ℕ). LaidOut Byte (CutOk all) (NewIn all) [] (drop c (seen_glyphs l)) u x) (sym (add-zero u) ∙ r) Growth.end
+  laid_out_lem (insert (words t) a ∷ ops) c pre u u' f (on q k) d e r =
       Growth.words (length t) a (λ z. (ap paired piece ∙ whole-text (paired t) q, tt)) f.1
-      (laid_out ops c (pre ++ t) (u + length t) u' f.2 k (d ∙ sym (append_assoc pre t (new_units ops))) (length-append pre t ∙ ap (λ (z : ℕ). z + length t) e) (omega (arith, length-append t (new_units ops))))
+      (laid_out_lem ops c (pre ++ t) (u + length t) u' f.2 k (d ∙ sym (append_assoc pre t (new_units ops))) (length-append pre t ∙ ap (λ (z : ℕ). z + length t) e) (omega (arith, length-append t (new_units ops))))
     where
       piece : take (length t) (drop u all) ≡ t
       piece = ap (λ (z : ℕ). take (length t) (drop z all)) (sym e) ∙ ap (λ (z : List ℕ). take (length t) (drop (length pre) z)) d ∙ ap (take (length t)) (drop-append_seam pre (t ++ new_units ops)) ∙ take-append_seam t (new_units ops)
-  laid_out (insert (object x) a ∷ ops) c pre u u' f (on q k) d e r = Growth.object x a (tt, f.0) f.1 (laid_out ops c pre u u' f.2 k d e r)
-  laid_out (delete n ∷ ops) c pre u u' f (on q k) d e r = drops n (may-cut c n (too_long (visible_units old l) c n) q) (onward ops c n u u' (laid_out ops (min (length (visible_units old l)) (c + n)) pre u u' f k d e r))
-  laid_out (retain n a ∷ ops) c pre u u' f (on q k) d e r = keeps n a f.0 (may-cut c n false q) (onward ops c n u u' (laid_out ops (min (length (visible_units old l)) (c + n)) pre u u' f.1 k d e r))
+  laid_out_lem (insert (object x) a ∷ ops) c pre u u' f (on q k) d e r = Growth.object x a (tt, f.0) f.1 (laid_out_lem ops c pre u u' f.2 k d e r)
+  laid_out_lem (delete n ∷ ops) c pre u u' f (on q k) d e r = drops n (may-cut c n (too_long (visible_units old l) c n) q) (onward ops c n u u' (laid_out_lem ops (min (length (visible_units old l)) (c + n)) pre u u' f k d e r))
+  laid_out_lem (retain n a ∷ ops) c pre u u' f (on q k) d e r = keeps n a f.0 (may-cut c n false q) (onward ops c n u u' (laid_out_lem ops (min (length (visible_units old l)) (c + n)) pre u u' f.1 k d e r))
 
 -- The ruling of every call but Begin.
 pub ruling_leads : (c : Call) → Edit c → FineCall c → (s : Sheet) → Fit s → (ruling c s).fault ≡ 0 → Rules s (ruling c s)
+ruling_leads begin_now d f s fit e = elim d [ ]
 ruling_leads (insert_text i us) d f s fit e = text_leads i us plain_text s fit (λ us u u' w r. plain_text-grows Byte (CutOk us) (NewIn us) r) e
 ruling_leads (insert_text_with i us a) d f s fit e = text_leads i us (λ w. insert_with w a) s fit (λ us u u' w r. insert-grows Byte (CutOk us) (NewIn us) r zero-byte a f) e
 ruling_leads (insert_embed i x) d f s fit e = embed_leads i x plain_embed s f fit (λ us u u' w r. plain_embed-grows Byte (CutOk us) (NewIn us) r) e
@@ -145,7 +146,7 @@ ruling_leads (remove_range i n) d f s fit e =
     remove-grows Byte (CutOk s.units) (NewIn s.units) zero-byte i n s.items s.next (length s.units) (fine-list s.items (length s.units) fit) (range-start s i n q) (range-end s i n q)
 ruling_leads (apply_delta ops) d f s fit e =
     delta-grows Byte (CutOk all) (NewIn all) zero-byte (laid_out (length s.units) ops) s.items s.next (length s.units) (length all) (fine-list s.items (length s.units) fit)
-    (laid_out s.units all s.items (λ n h. clean-on s.units (new_units ops) s.items n fit h) ops 0 s.units (length s.units) (length all) f ((faultless (seen s) 0 ops).0 e) refl refl (sym (length-append s.units (new_units ops))))
+    (laid_out_lem s.units all s.items (λ n h. clean-on s.units (new_units ops) s.items n fit h) ops 0 s.units (length s.units) (length all) f ((faultless (seen s) 0 ops).0 e) refl refl (sym (length-append s.units (new_units ops))))
   where
     all : List ℕ
     all = s.units ++ new_units ops

@@ -12,7 +12,7 @@ use Rattle.rules.specs.Reading.{Glyph, seen_glyphs, Op, insert, delete, retain}
 use Rattle.rules.specs.Places.{At, whole, stay, Move, after, and_then, place}
 use Rattle.rules.specs.Edits.{by_index, plain_text, plain_embed, insert_with, format, kill_units, tidy, delete_here, remove_here, remove}
 use Rattle.rules.specs.Delta.{Given, new_text, new_embed, move, carry_out, delta}
-use Rattle.rules.specs.Calls.{Sheet, Body, words, object, Call, insert_text, insert_text_with, insert_embed, insert_embed_with, format_range, remove_range, apply_delta, laid_out, call}
+use Rattle.rules.specs.Calls.{begin_now, Sheet, Body, words, object, Call, insert_text, insert_text_with, insert_embed, insert_embed_with, format_range, remove_range, apply_delta, laid_out, call}
 use Rattle.rules.specs.Rulings.{Within, text_ruling, ruling, Edit}
 use Rattle.rules.specs.Sound.{occurs}
 use Rattle.rules.specs.Counts.{AllBelow, Makes, most_new}
@@ -136,8 +136,8 @@ move_makes (delete n) e l m = looser (omega arith) (delete_makes n e l m)
 move_makes (retain n a) e l m = format_makes a n e l m
 
 carry_makes : {l : List Item} {m k : ℕ} (ops : List (Op Given)) (p : At) → Makes l m p k → Makes l m (carry_out ops p) (k + 33 * length ops)
-carry_makes [] p h = looser (omega arith) h
-carry_makes (op ∷ ops) p h = looser (omega arith) (carry_makes ops (and_then none p (move op)) (then_makes none p (move op) h (move_makes op (after none p.left) p.right p.next)))
+carry_makes {l = l} {m = m} {k = k} [] p h = looser (omega arith) h
+carry_makes {l = l} {m = m} {k = k} (op ∷ ops) p h = looser (omega arith) (carry_makes {k = k + 33} ops (and_then none p (move op)) (then_makes none p (move op) h (move_makes op (after none p.left) p.right p.next)))
 
 pub delta_makes : (ops : List (Op Given)) (l : List Item) (m : ℕ) → Makes l m (delta ops l m) (33 * length ops)
 delta_makes ops l m = looser (omega arith) (carry_makes ops (stay l m) (stay_makes l m 0))
@@ -162,6 +162,7 @@ text_makes i [] f k s h = stay_makes s.items s.next (1 + k)
 text_makes i (x ∷ us) f k s h = index_makes i (f (text (length s.units) (length (x ∷ us)))) k (h (length s.units) (length us)) s.items s.next
 
 pub ruling_makes : (c : Call) → Edit c → (s : Sheet) → Makes s.items s.next (ruling c s).place (most_new c)
+ruling_makes begin_now d s = elim d [ ]
 ruling_makes (insert_text i us) d s = text_makes i us plain_text 1 s (λ u n. plain_text_makes (texts {u = u} (suc n) (omega arith) tt))
 ruling_makes (insert_text_with i us a) d s = text_makes i us (λ w. insert_with w a) 33 s (λ u n. insert_makes (texts {u = u} (suc n) (omega arith) tt) a)
 ruling_makes (insert_embed i x) d s = index_makes i (plain_embed (embed x)) 1 (plain_embed_makes (embeds {u = 0} x tt)) s.items s.next

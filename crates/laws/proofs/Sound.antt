@@ -13,15 +13,16 @@ use Rattle.rules.specs.Rulings.{Byte}
 use Rattle.laws.proofs.Lists.{In, here, there}
 use Rattle.laws.proofs.Grown.{Grown, same, then, under, marked, adds, kills, halves, Fresh, embeds, texts, grown-count}
 
-abbrev small : List ℕ → Type 0
-small [] = Unit {0}
-small (k ∷ ks) = (k < 16) × small ks
+abbrev AllSmall : List ℕ → Type 0
+AllSmall [] = Unit {0}
+AllSmall (k ∷ ks) = (k < 16) × AllSmall ks
 
-small_in : (k : ℕ) (ks : List ℕ) → In k ks → small ks → k < 16
+small_in : (k : ℕ) (ks : List ℕ) → In k ks → AllSmall ks → k < 16
+small_in k [] x'' h = elim x'' [ ]
 small_in k (c ∷ ks) (here e) h = subst (λ (x : ℕ). x < 16) (sym e) h.0
 small_in k (c ∷ ks) (there i) h = small_in k ks i h.1
 
-key-small : (k : ℕ) → In k keys → k < 16
+key-AllSmall : (k : ℕ) → In k keys → k < 16
 unfolding keys
 key-small k i = small_in k keys i (omega arith, (omega arith, (omega arith, (omega arith, (omega arith, (omega arith, (omega arith, (omega arith, (omega arith, (omega arith, (omega arith, (omega arith, (omega arith, (omega arith, (omega arith, (omega arith, tt))))))))))))))))
 

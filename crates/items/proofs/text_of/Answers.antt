@@ -15,13 +15,13 @@ sound-here : (c : Else-n-h) → (
     let a = c.args in
     sound_of a.h a.items.now a.units.now ≡ true
     )
-sound-here c = sym c.sound.ensures ∙ not-false _ c.if-not-sound.false
+sound-here c = sym c.sound.ensures ∙ c.if-not-sound.false
 
 pub returns-then-not-sound : goal.returns-then-not-sound
-returns-then-not-sound c = text-broken _ _ _ _ (sym c.sound.ensures ∙ not-true _ c.if-not-sound.true)
+returns-then-not-sound c = text-broken _ _ _ _ (sym c.sound.ensures ∙ c.if-not-sound.true)
 
 pub returns-then-n-h : goal.returns-then-n-h
-returns-then-n-h c = text-unused _ _ _ _ (sym c.sound.ensures ∙ not-false _ c.if-not-sound.false) (omega arith)
+returns-then-n-h c = text-unused _ _ _ _ (sym c.sound.ensures ∙ c.if-not-sound.false) (omega arith)
 
 pub bounds-items-i : goal.bounds-items-i
 bounds-items-i c =

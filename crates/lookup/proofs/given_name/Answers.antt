@@ -7,8 +7,8 @@ use Rattle.lookup.proofs.given_name.Goals as goal
 
 pub returns-then-not-sound : goal.returns-then-not-sound
 unfolding given_name
-returns-then-not-sound c = rw (sym c.sound.ensures ∙ not-true _ c.if-not-sound.true)
+returns-then-not-sound c = rw (sym c.sound.ensures ∙ c.if-not-sound.true)
 
 pub returns : goal.returns
 unfolding given_name
-returns c = rw (sym c.sound.ensures ∙ not-false _ c.if-not-sound.false)
+returns c = rw (sym c.sound.ensures ∙ c.if-not-sound.false)

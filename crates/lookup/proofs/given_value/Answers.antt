@@ -7,12 +7,12 @@ use Rattle.lookup.proofs.given_value.Goals as goal
 
 pub returns-then-not-sound : goal.returns-then-not-sound
 unfolding given_value
-returns-then-not-sound c = rw (sym c.sound.ensures ∙ not-true _ c.if-not-sound.true)
+returns-then-not-sound c = rw (sym c.sound.ensures ∙ c.if-not-sound.true)
 
 pub returns-then-v-eq0 : goal.returns-then-v-eq0
 unfolding given_value
-returns-then-v-eq0 c = rw (sym c.sound.ensures ∙ not-false _ c.if-not-sound.false, eq-eqb _ _ c.if-v-eq0.true)
+returns-then-v-eq0 c = rw (sym c.sound.ensures ∙ c.if-not-sound.false, eq-eqb _ _ c.if-v-eq0.true)
 
 pub returns : goal.returns
 unfolding given_value
-returns c = rw (sym c.sound.ensures ∙ not-false _ c.if-not-sound.false, ne_eqb _ _ c.if-v-eq0.false)
+returns c = rw (sym c.sound.ensures ∙ c.if-not-sound.false, ne_eqb _ _ c.if-v-eq0.false)

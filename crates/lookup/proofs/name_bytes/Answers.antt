@@ -9,14 +9,14 @@ use Rattle.lookup.proofs.name_bytes.Goals as goal
 
 pub returns-then-not-given_name : goal.returns-then-not-given_name
 unfolding name_of
-returns-then-not-given_name c = rw (sym c.given_name.ensures ∙ not-true _ c.if-not-given_name.true)
+returns-then-not-given_name c = rw (sym c.given_name.ensures ∙ c.if-not-given_name.true)
 
 pub content-requires : goal.content-requires
 content-requires c =
-    let given = given-name _ _ _ (sym c.given_name.ensures ∙ not-false _ c.if-not-given_name.false) in
+    let given = given-name _ _ _ (sym c.given_name.ensures ∙ c.if-not-given_name.false) in
     let few = given.0.of-names.few in
     (omega (arith, c.wide.ensures), given.0.full)
 
 pub returns : goal.returns
 unfolding name_of
-returns c = rw (sym c.given_name.ensures ∙ not-false _ c.if-not-given_name.false) (rw c.wide.ensures at c.content.ensures)
+returns c = rw (sym c.given_name.ensures ∙ c.if-not-given_name.false) (rw c.wide.ensures at c.content.ensures)

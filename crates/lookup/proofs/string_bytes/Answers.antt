@@ -10,11 +10,11 @@ use Rattle.lookup.proofs.string_bytes.Goals.{After-wide-slot}
 
 pub returns-then-not-given_value : goal.returns-then-not-given_value
 unfolding string_of
-returns-then-not-given_value c = rw (sym c.given_value.ensures ∙ not-true _ c.if-not-given_value.true)
+returns-then-not-given_value c = rw (sym c.given_value.ensures ∙ c.if-not-given_value.true)
 
 pub kind_at-kind-requires : goal.kind_at-kind-requires
 kind_at-kind-requires c =
-    let given = given-value _ _ _ (sym c.given_value.ensures ∙ not-false _ c.if-not-given_value.false) in
+    let given = given-value _ _ _ (sym c.given_value.ensures ∙ c.if-not-given_value.false) in
     let few = given.sound.of_values.few in
     let high = given.high in
     (omega (arith, c.wide-slot.ensures), given.sound.full)
@@ -22,14 +22,14 @@ kind_at-kind-requires c =
 pub returns-then-kind-eq-BOOL : goal.returns-then-kind-eq-BOOL
 unfolding string_of value_at value_of bytes_of
 returns-then-kind-eq-BOOL c =
-    let given = sym c.given_value.ensures ∙ not-false _ c.if-not-given_value.false in
+    let given = sym c.given_value.ensures ∙ c.if-not-given_value.false in
     let kind = rw c.wide-slot.ensures at c.kind_at-kind.ensures in
     rw (given, ← kind, eq-eqb _ _ c.if-kind-eq-BOOL.true)
 
 pub returns-then-kind-eq-INT : goal.returns-then-kind-eq-INT
 unfolding string_of value_at value_of bytes_of
 returns-then-kind-eq-INT c =
-    let given = sym c.given_value.ensures ∙ not-false _ c.if-not-given_value.false in
+    let given = sym c.given_value.ensures ∙ c.if-not-given_value.false in
     let kind = rw c.wide-slot.ensures at c.kind_at-kind.ensures in
     rw (given, ← kind, ne_eqb _ _ c.if-kind-eq-BOOL.false, eq-eqb _ _ c.if-kind-eq-INT.true)
 
@@ -39,6 +39,6 @@ content-requires c = kind-at-requires (goal.at.content-requires c).After-wide-sl
 pub returns : goal.returns
 unfolding string_of value_at value_of bytes_of
 returns c =
-    let given = sym c.given_value.ensures ∙ not-false _ c.if-not-given_value.false in
+    let given = sym c.given_value.ensures ∙ c.if-not-given_value.false in
     let kind = rw c.wide-slot.ensures at c.kind_at-kind.ensures in
     rw (given, ← kind, ne_eqb _ _ c.if-kind-eq-BOOL.false, ne_eqb _ _ c.if-kind-eq-INT.false) (rw c.wide-slot.ensures at c.content.ensures)

@@ -14,11 +14,11 @@ use Rattle.lookup.proofs.value_at.Goals.{After-wide-slot}
 
 pub returns-then-not-given_value : goal.returns-then-not-given_value
 unfolding shown_of
-returns-then-not-given_value c = rw (sym c.given_value.ensures ∙ not-true _ c.if-not-given_value.true)
+returns-then-not-given_value c = rw (sym c.given_value.ensures ∙ c.if-not-given_value.true)
 
 pub kind_at-kind-requires : goal.kind_at-kind-requires
 kind_at-kind-requires c =
-    let given = given-value _ _ _ (sym c.given_value.ensures ∙ not-false _ c.if-not-given_value.false) in
+    let given = given-value _ _ _ (sym c.given_value.ensures ∙ c.if-not-given_value.false) in
     let few = given.sound.of_values.few in
     let high = given.high in
     (omega (arith, c.wide-slot.ensures), given.sound.full)
@@ -28,14 +28,14 @@ content-requires c = kind-at-requires (goal.at.content-requires c).After-wide-sl
 
 pub number_of-requires : goal.number_of-requires
 number_of-requires c =
-    let given = given-value _ _ _ (sym c.given_value.ensures ∙ not-false _ c.if-not-given_value.false) in
+    let given = given-value _ _ _ (sym c.given_value.ensures ∙ c.if-not-given_value.false) in
     let kind = rw c.wide-slot.ensures at c.kind_at-kind.ensures in
     rw (c.content.ensures, c.wide-slot.ensures) (given_short given _ kind (inl c.if-kind-eq-BOOL.true))
 
 pub returns-then-kind-eq-BOOL : goal.returns-then-kind-eq-BOOL
 unfolding shown_of value_at value_of case_of
 returns-then-kind-eq-BOOL c =
-    let given = sym c.given_value.ensures ∙ not-false _ c.if-not-given_value.false in
+    let given = sym c.given_value.ensures ∙ c.if-not-given_value.false in
     let kind = rw c.wide-slot.ensures at c.kind_at-kind.ensures in
     let number = rw (c.content.ensures, c.wide-slot.ensures) at c.number_of.ensures in
     rw (given, ← kind, eq-eqb _ _ c.if-kind-eq-BOOL.true, number)
@@ -45,14 +45,14 @@ content-requires-then-kind-eq-INT c = kind-at-requires (goal.at.content-requires
 
 pub number_of-requires-then-kind-eq-INT : goal.number_of-requires-then-kind-eq-INT
 number_of-requires-then-kind-eq-INT c =
-    let given = given-value _ _ _ (sym c.given_value.ensures ∙ not-false _ c.if-not-given_value.false) in
+    let given = given-value _ _ _ (sym c.given_value.ensures ∙ c.if-not-given_value.false) in
     let kind = rw c.wide-slot.ensures at c.kind_at-kind.ensures in
     rw (c.content-then-kind-eq-INT.ensures, c.wide-slot.ensures) (given_short given _ kind (inr c.if-kind-eq-INT.true))
 
 pub returns-then-kind-eq-INT : goal.returns-then-kind-eq-INT
 unfolding shown_of value_at value_of case_of
 returns-then-kind-eq-INT c =
-    let given = sym c.given_value.ensures ∙ not-false _ c.if-not-given_value.false in
+    let given = sym c.given_value.ensures ∙ c.if-not-given_value.false in
     let kind = rw c.wide-slot.ensures at c.kind_at-kind.ensures in
     let number = rw (c.content-then-kind-eq-INT.ensures, c.wide-slot.ensures) at c.number_of-then-kind-eq-INT.ensures in
     let fits : SFits w64 c.integer_of.result = record { sfits = c.integer_of.type-inv } in
@@ -61,6 +61,6 @@ returns-then-kind-eq-INT c =
 pub returns : goal.returns
 unfolding shown_of value_at value_of case_of
 returns c =
-    let given = sym c.given_value.ensures ∙ not-false _ c.if-not-given_value.false in
+    let given = sym c.given_value.ensures ∙ c.if-not-given_value.false in
     let kind = rw c.wide-slot.ensures at c.kind_at-kind.ensures in
     rw (given, ← kind, ne_eqb _ _ c.if-kind-eq-BOOL.false, ne_eqb _ _ c.if-kind-eq-INT.false)

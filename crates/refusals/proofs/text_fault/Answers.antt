@@ -5,4 +5,4 @@ use borrow.Author.Rules.{rules}
 use Rattle.refusals.proofs.text_fault.Goals as goal
 
 pub returns : goal.returns
-returns c = rw (sym c.is_whole.ensures ∙ not-false _ c.if-not-is_whole.false) c.embed_fault.ensures
+returns c = rw (sym c.is_whole.ensures ∙ c.if-not-is_whole.false) c.embed_fault.ensures

@@ -37,7 +37,7 @@ pub bounds-items-i : goal.bounds-items-i
 bounds-items-i c = (right_lt (here (goal.at.bounds-items-i c).In-loop-at).stands c.loop-at-test.true).1
 
 pub returns-then-not-stays_in_gap : goal.returns-then-not-stays_in_gap
-returns-then-not-stays_in_gap c = ended_here (here (goal.at.returns-then-not-stays_in_gap c).In-loop-at) c.loop-at-test.true (sym (told (goal.at.returns-then-not-stays_in_gap c).After-stays_in_gap) ∙ not-true _ c.if-not-stays_in_gap.true)
+returns-then-not-stays_in_gap c = ended_here (here (goal.at.returns-then-not-stays_in_gap c).In-loop-at) c.loop-at-test.true (sym (told (goal.at.returns-then-not-stays_in_gap c).After-stays_in_gap) ∙ c.if-not-stays_in_gap.true)
 
 pub forward-at-requires : goal.forward-at-requires
 forward-at-requires c = (c.loop-at-test.true, (right_lt (here (goal.at.forward-at-requires c).In-loop-at).stands c.loop-at-test.true).1)
@@ -46,7 +46,7 @@ pub loop-at-smaller : goal.loop-at-smaller
 loop-at-smaller c = rw c.forward-at.ensures (omega arith)
 
 pub loop-at-preserved : goal.loop-at-preserved
-loop-at-preserved c = λ h s. ended-past (c.loop-at.invariant h s) c.loop-at-test.true (sym (told (goal.at.loop-at-preserved c).After-stays_in_gap) ∙ not-false _ c.if-not-stays_in_gap.false) _ c.forward-at.ensures
+loop-at-preserved c = λ h s. ended-past (c.loop-at.invariant h s) c.loop-at-test.true (sym (told (goal.at.loop-at-preserved c).After-stays_in_gap) ∙ c.if-not-stays_in_gap.false) _ c.forward-at.ensures
 
 pub returns : goal.returns
 returns c = ended-last (c.loop-at.invariant c.args.h c.requires) c.loop-at-test.false

@@ -31,7 +31,7 @@ word-is : (c : After-text_len-sum) → (
     let a = c.args in
     word_ok a.units.now a.h.units (get_or a.items.now c.loop-k.at 0) ≡ true
     )
-word-is c = sym c.word_ok.ensures ∙ not-false _ c.if-not-word_ok.false
+word-is c = sym c.word_ok.ensures ∙ c.if-not-word_ok.false
 
 len_is : (c : After-text_len-sum) → (
     let a = c.args in
@@ -90,7 +90,7 @@ word_ok-requires c =
     record { used_in_bounds = omega (arith, pre.0.room, pre.0.used); plain = pre.1 }
 
 pub returns-then-not-word_ok : goal.returns-then-not-word_ok
-returns-then-not-word_ok c = measured-broken _ _ _ _ c.broken-then-not-word_ok.ensures (sym (whole_is (goal.at.returns-then-not-word_ok c).At-loop-k ∙ rest-bad _ _ _ _ _ _ _ (omega arith) (sym c.word_ok.ensures ∙ not-true _ c.if-not-word_ok.true)))
+returns-then-not-word_ok c = measured-broken _ _ _ _ c.broken-then-not-word_ok.ensures (sym (whole_is (goal.at.returns-then-not-word_ok c).At-loop-k ∙ rest-bad _ _ _ _ _ _ _ (omega arith) (sym c.word_ok.ensures ∙ c.if-not-word_ok.true)))
 
 pub overflow_add-sum : goal.overflow_add-sum
 overflow_add-sum c =

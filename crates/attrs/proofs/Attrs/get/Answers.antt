@@ -14,4 +14,4 @@ returns-then-bit_at-eq0 c = record { is = sym (env-clear _ _ (omega arith)); sma
 pub returns : goal.returns
 returns c =
     let a = c.args in
-    record { is = c.wide.ensures.0 ∙ sym (env-set a.t1 a.key (omega arith) (omega arith)); small = c.wide.ensures.1 }
+    record { is = c.wide.ensures.0 ∙ sym (env-set a.self a.key (omega arith) (omega arith)); small = c.wide.ensures.1 }

@@ -12,10 +12,10 @@ use Rattle.attrs.proofs.Attrs.without.Goals.{Else-not-has}
 
 -- the key is there, so it is a key of the mask
 found : (c : Else-not-has) → (c.args.key < 16) × (bit c.args.self.mask c.args.key ≡ 1)
-found c = there _ _ (sym c.has.ensures ∙ not-false _ c.if-not-has.false)
+found c = there _ _ (sym c.has.ensures ∙ c.if-not-has.false)
 
 pub returns-then-not-has : goal.returns-then-not-has
-returns-then-not-has c = none-gone _ _ (search rules) (sym c.has.ensures ∙ not-true _ c.if-not-has.true)
+returns-then-not-has c = none-gone _ _ (search rules) (sym c.has.ensures ∙ c.if-not-has.true)
 
 pub bit_of-requires : goal.bit_of-requires
 bit_of-requires c = (found (goal.at.bit_of-requires c).Else-not-has).0

@@ -31,7 +31,7 @@ returns-then-not-passes c =
     record {
       stands = c.loop-s.invariant.0;
       same = c.loop-s.invariant.1;
-      stops = λ _. rw c.unpack-it.ensures at (sym c.passes.ensures ∙ not-true _ c.if-not-passes.true);
+      stops = λ _. rw c.unpack-it.ensures at (sym c.passes.ensures ∙ c.if-not-passes.true);
       fewer = c.loop-s.invariant.2;
     }
 
@@ -44,7 +44,7 @@ loop-s-smaller c = rw c.past-s.ensures (omega (arith, c.loop-s-test.true))
 pub loop-s-preserved : goal.loop-s-preserved
 loop-s-preserved c =
     let unpacked = c.unpack-it.ensures in
-    let passes = rw unpacked at (sym c.passes.ensures ∙ not-false _ c.if-not-passes.false) in
+    let passes = rw unpacked at (sym c.passes.ensures ∙ c.if-not-passes.false) in
     rw (c.past-s.ensures, unpacked) (
       (stepped (goal.at.loop-s-preserved c).In-loop-s).stands,
       (λ j. c.loop-s.invariant.1 j ∙ skip_turn j _ _ c.loop-s.invariant.0 c.loop-s-test.true passes),

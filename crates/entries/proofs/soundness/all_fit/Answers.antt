@@ -17,7 +17,7 @@ pub slot_fits-requires : goal.slot_fits-requires
 slot_fits-requires c = omega arith
 
 pub returns-then-not-slot_fits : goal.returns-then-not-slot_fits
-returns-then-not-slot_fits c = sym (fit-fails _ _ _ _ (omega arith) (sym c.slot_fits.ensures ∙ not-true _ c.if-not-slot_fits.true)) ∙ c.loop-i.invariant.1
+returns-then-not-slot_fits c = sym (fit-fails _ _ _ _ (omega arith) (sym c.slot_fits.ensures ∙ c.if-not-slot_fits.true)) ∙ c.loop-i.invariant.1
 
 pub overflow_add-i : goal.overflow_add-i
 overflow_add-i c = omega arith
@@ -26,7 +26,7 @@ pub loop-i-smaller : goal.loop-i-smaller
 loop-i-smaller c = omega arith
 
 pub loop-i-preserved : goal.loop-i-preserved
-loop-i-preserved c = (omega arith, sym (fit-step _ _ _ _ (omega arith) (sym c.slot_fits.ensures ∙ not-false _ c.if-not-slot_fits.false)) ∙ c.loop-i.invariant.1)
+loop-i-preserved c = (omega arith, sym (fit-step _ _ _ _ (omega arith) (sym c.slot_fits.ensures ∙ c.if-not-slot_fits.false)) ∙ c.loop-i.invariant.1)
 
 pub returns : goal.returns
 returns c = sym (fit-end _ _ _ _ (omega arith)) ∙ c.loop-i.invariant.1

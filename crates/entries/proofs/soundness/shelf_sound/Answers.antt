@@ -12,11 +12,11 @@ returns-then-count-most c = rw (lt-leb _ _ c.if-count-most.true)
 pub returns-then-not-all_fit : goal.returns-then-not-all_fit
 unfolding shelf_sound
 returns-then-not-all_fit c =
-    let fails = sym c.all_fit.ensures ∙ not-true _ c.if-not-all_fit.true in
+    let fails = sym c.all_fit.ensures ∙ c.if-not-all_fit.true in
     rw (le-leb _ _ c.if-count-most.false, fails)
 
 pub returns : goal.returns
 unfolding shelf_sound
 returns c =
-    let fit = sym c.all_fit.ensures ∙ not-false _ c.if-not-all_fit.false in
+    let fit = sym c.all_fit.ensures ∙ c.if-not-all_fit.false in
     rw (le-leb _ _ c.if-count-most.false, fit) c.distinct.ensures

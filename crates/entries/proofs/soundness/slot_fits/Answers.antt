@@ -6,7 +6,7 @@ use Rattle.entries.proofs.soundness.slot_fits.Goals as goal
 
 pub returns-then-kind-eq0 : goal.returns-then-kind-eq0
 unfolding fits_at
-returns-then-kind-eq0 c = rw (lt-ltb _ _ c.if-slot-lt16.true, eq-eqb _ _ c.if-kind-eq0.true) c.fits-2.ensures
+returns-then-kind-eq0 c = rw (lt-ltb _ _ c.if-slot-lt16.true, eq-eqb _ _ c.if-kind-eq0.true) c.fits.ensures
 
 pub returns-then-slot-lt16 : goal.returns-then-slot-lt16
 unfolding fits_at
@@ -18,4 +18,4 @@ returns-then-kind-eq0-2 c = rw (le-ltb _ _ c.if-slot-lt16.false, eq-eqb _ _ c.if
 
 pub returns : goal.returns
 unfolding fits_at
-returns c = rw (le-ltb _ _ c.if-slot-lt16.false, ne_eqb _ _ c.if-kind-eq0-2.false) c.fits3.ensures
+returns c = rw (le-ltb _ _ c.if-slot-lt16.false, ne_eqb _ _ c.if-kind-eq0-2.false) c.fits-2.ensures

@@ -11,45 +11,45 @@ use Rattle.events.proofs.event.event.Goals as goal
 pub returns-then-not-sound : goal.returns-then-not-sound
 returns-then-not-sound c =
     let a = c.args in
-    rw (given-broken a.h a.items.now a.units.now _ _ (sym c.sound.ensures ∙ not-true _ c.if-not-sound.true)) (c.refuse.ensures, (refl, refl))
+    rw (given-broken a.h a.items.now a.units.now _ _ (sym c.sound.ensures ∙ c.if-not-sound.true)) (c.refuse.ensures, (refl, refl))
 
 pub walk-m-requires : goal.walk-m-requires
 walk-m-requires c =
     let a = c.args in
-    let ok = sym c.sound.ensures ∙ not-false _ c.if-not-sound.false in
+    let ok = sym c.sound.ensures ∙ c.if-not-sound.false in
     record { walkable = walkable a.h a.items.now a.units.now ok; limit_in_bounds = omega arith }
 
 pub returns-then-m-ops : goal.returns-then-m-ops
 returns-then-m-ops c =
     let a = c.args in
-    let ok = sym c.sound.ensures ∙ not-false _ c.if-not-sound.false in
+    let ok = sym c.sound.ensures ∙ c.if-not-sound.false in
     let k = c.walk-m.ensures in
     rw (no_words a.h a.items.now a.units.now ok _ a.out.now _ _ k c.if-m-ops.true) (c.refuse-then-m-ops.ensures, (same a.h a.items.now a.units.now ok _ a.out.now _ _ k, refl))
 
 pub returns-then-m-out : goal.returns-then-m-out
 returns-then-m-out c =
     let a = c.args in
-    let ok = sym c.sound.ensures ∙ not-false _ c.if-not-sound.false in
+    let ok = sym c.sound.ensures ∙ c.if-not-sound.false in
     let k = c.walk-m.ensures in
     rw (no-units a.h a.items.now a.units.now ok _ a.out.now _ _ k c.if-m-ops.false c.if-m-out.true) (c.refuse-then-m-out.ensures, (same a.h a.items.now a.units.now ok _ a.out.now _ _ k, refl))
 
 pub walk-requires : goal.walk-requires
 walk-requires c =
     let a = c.args in
-    let ok = sym c.sound.ensures ∙ not-false _ c.if-not-sound.false in
+    let ok = sym c.sound.ensures ∙ c.if-not-sound.false in
     record { walkable = walkable a.h a.items.now a.units.now ok; limit_in_bounds = c.if-m-ops.false }
 
 pub fill-requires : goal.fill-requires
 fill-requires c =
     let a = c.args in
-    let ok = sym c.sound.ensures ∙ not-false _ c.if-not-sound.false in
+    let ok = sym c.sound.ensures ∙ c.if-not-sound.false in
     let s = sound-parts a.h a.items.now a.units.now ok in
     record { walkable = walkable a.h a.items.now a.units.now ok; units_in_bounds = omega (arith, s.room, s.used); in_bounds = text-room a.h a.items.now a.units.now ok _ a.out.now _ _ c.walk-m.ensures c.if-m-out.false }
 
 pub returns : goal.returns
 returns c =
     let a = c.args in
-    let ok = sym c.sound.ensures ∙ not-false _ c.if-not-sound.false in
+    let ok = sym c.sound.ensures ∙ c.if-not-sound.false in
     let k = c.walk-m.ensures in
     let l = c.if-m-ops.false in
     let n = c.if-m-out.false in

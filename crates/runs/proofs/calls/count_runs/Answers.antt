@@ -7,12 +7,12 @@ use borrow.Author.Rules.{rules}
 use Rattle.runs.proofs.calls.count_runs.Goals as goal
 
 pub returns-then-not-sound : goal.returns-then-not-sound
-returns-then-not-sound c = count-broken _ _ _ _ (sym c.sound.ensures ∙ not-true _ c.if-not-sound.true)
+returns-then-not-sound c = count-broken _ _ _ _ (sym c.sound.ensures ∙ c.if-not-sound.true)
 
 pub tally-requires : goal.tally-requires
-tally-requires c = begun _ _ _ true (sym c.sound.ensures ∙ not-false _ c.if-not-sound.false) _ c.start.ensures
+tally-requires c = begun _ _ _ true (sym c.sound.ensures ∙ c.if-not-sound.false) _ c.start.ensures
 
 pub returns : goal.returns
 returns c =
-    let ok = sym c.sound.ensures ∙ not-false _ c.if-not-sound.false in
+    let ok = sym c.sound.ensures ∙ c.if-not-sound.false in
     count-is _ _ _ _ ok _ c.start.ensures _ c.tally.ensures

@@ -31,10 +31,10 @@ sound-here : (c : Else-not-sound) → (
     let a = c.args in
     sound_of a.h a.items.now a.units.now ≡ true
     )
-sound-here c = sym c.sound.ensures ∙ not-false _ c.if-not-sound.false
+sound-here c = sym c.sound.ensures ∙ c.if-not-sound.false
 
 pub returns-then-not-sound : goal.returns-then-not-sound
-returns-then-not-sound c = carry_unsound (asked (goal.at.returns-then-not-sound c).Start) _ _ _ (sym c.sound.ensures ∙ not-true _ c.if-not-sound.true)
+returns-then-not-sound c = carry_unsound (asked (goal.at.returns-then-not-sound c).Start) _ _ _ (sym c.sound.ensures ∙ c.if-not-sound.true)
 
 pub embed_fault-fault-requires : goal.embed_fault-fault-requires
 embed_fault-fault-requires c = sound-here (goal.at.embed_fault-fault-requires c).After-sound

@@ -32,7 +32,7 @@ sound-here : (c : Else-not-sound) → (
     let a = (first (goal.at.Else-not-sound c).After-sound).args in
     sound_of a.h a.items.now a.units.now ≡ true
     )
-sound-here c = sym c.sound.ensures ∙ not-false _ c.if-not-sound.false
+sound-here c = sym c.sound.ensures ∙ c.if-not-sound.false
 
 ruled : (c : Else-chunk-eq0) → (
     let s = first (goal.at.Else-chunk-eq0 c).After-sound in
@@ -44,7 +44,7 @@ ruled c =
     text-ruled a.plain a.index a.chunk.now (says a.attrs) a.h a.items.now a.units.now (sound-here (goal.at.Else-chunk-eq0 c).Else-not-sound) (omega (arith, c.if-chunk-eq0.false))
 
 pub returns-then-not-sound : goal.returns-then-not-sound
-returns-then-not-sound c = carry_unsound (asked (first (goal.at.returns-then-not-sound c).After-sound)) _ _ _ (sym c.sound.ensures ∙ not-true _ c.if-not-sound.true)
+returns-then-not-sound c = carry_unsound (asked (first (goal.at.returns-then-not-sound c).After-sound)) _ _ _ (sym c.sound.ensures ∙ c.if-not-sound.true)
 
 pub returns-then-chunk-eq0 : goal.returns-then-chunk-eq0
 returns-then-chunk-eq0 c =

@@ -22,10 +22,10 @@ sound-here : (c : Else-not-sound) → (
     let a = (first (goal.at.Else-not-sound c).After-sound).args in
     sound_of a.h a.items.now a.units.now ≡ true
     )
-sound-here c = sym c.sound.ensures ∙ not-false _ c.if-not-sound.false
+sound-here c = sym c.sound.ensures ∙ c.if-not-sound.false
 
 pub returns-then-not-sound : goal.returns-then-not-sound
-returns-then-not-sound c = carry_unsound (asked (first (goal.at.returns-then-not-sound c).After-sound)) _ _ _ (sym c.sound.ensures ∙ not-true _ c.if-not-sound.true)
+returns-then-not-sound c = carry_unsound (asked (first (goal.at.returns-then-not-sound c).After-sound)) _ _ _ (sym c.sound.ensures ∙ c.if-not-sound.true)
 
 pub range_fault-fault-requires : goal.range_fault-fault-requires
 range_fault-fault-requires c = sound-here (goal.at.range_fault-fault-requires c).After-sound

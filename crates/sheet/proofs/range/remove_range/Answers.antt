@@ -23,10 +23,10 @@ sound-here : (c : Else-not-m) → (
     let a = (first (goal.at.Else-not-m c).After-measure-m).args in
     sound_of a.h a.items.now a.units.now ≡ true
     )
-sound-here c = sym (sound-is _ _ _ _ c.measure-m.ensures) ∙ not-false _ c.if-not-m.false
+sound-here c = sym (sound-is _ _ _ _ c.measure-m.ensures) ∙ c.if-not-m.false
 
 pub returns-then-not-m : goal.returns-then-not-m
-returns-then-not-m c = carry_unsound (asked (first (goal.at.returns-then-not-m c).After-measure-m)) _ _ _ (sym (sound-is _ _ _ _ c.measure-m.ensures) ∙ not-true _ c.if-not-m.true)
+returns-then-not-m c = carry_unsound (asked (first (goal.at.returns-then-not-m c).After-measure-m)) _ _ _ (sym (sound-is _ _ _ _ c.measure-m.ensures) ∙ c.if-not-m.true)
 
 pub removal_fault-fault-requires : goal.removal_fault-fault-requires
 removal_fault-fault-requires c = (sound-here (goal.at.removal_fault-fault-requires c).After-struct_known-1, len_is _ _ _ _ c.measure-m.ensures (sound-here (goal.at.removal_fault-fault-requires c).After-struct_known-1))
