@@ -13,7 +13,6 @@ use Rattle.rules.specs.Sheet.{What, text, embed, mark, width, Item}
 use Rattle.rules.specs.Reading.{live, pass_key, visible, Glyph, unit, units_of}
 use Rattle.rules.specs.Sound.{Fits, AllFit}
 use Rattle.rules.specs.Runs.{words, object, Run as Stretch, runs_from, ahead, joined}
-use types.Run.{OneOf}
 use denote.Enum.Declared.{tag_of}
 use Rattle.layout.specs.declared.word.Content.{Content}
 use Rattle.layout.specs.declared.word.Content.TheVariants.{Text, Embed, Mark}
@@ -213,10 +212,10 @@ record Other (w : What) : Type 0 where
   pub some : 0 < len
 
 -- what is not passed and no embed is a text, and no text is empty
-other : (c : Content) (used : ℕ) (d : Bool) → OneOf (0 ∷ 2 ∷ []) (tag_of the_type c) → passes_of d (what_of c) ≡ false → Fits used (what_of c) → Other (what_of c)
+other : (c : Content) (used : ℕ) (d : Bool) → ((x : ℕ) → c ≡ Embed x → ⊥) → passes_of d (what_of c) ≡ false → Fits used (what_of c) → Other (what_of c)
 unfolding passes_of
 other (Text s n) used d t p f = record { start = s; len = n; is = refl; some = f.0 }
-other (Embed x) used d t p f = absurd (⊎_elim (λ e. omega arith) (λ e. omega arith) t)
+other (Embed x) used d t p f = absurd (t x refl)
 other (Mark k v) used true t p f = absurd (true≢false p)
 other (Mark k v) used false t p f = absurd (true≢false p)
 
@@ -237,11 +236,11 @@ module _ (j : Bool) (m : List ℕ) (c : Cursor) (s : Spot) (sk : Skipped m c.spo
           fewer = omega (arith, sk.fewer);
         }
 
-    pub next-text : (it : Entry) → it ≡ unpack_of (get_or m s.at 0) → OneOf (0 ∷ 2 ∷ []) (tag_of the_type it.content) → (r : Spot) → Gathered j m (next m s) r
+    pub next-text : (it : Entry) → it ≡ unpack_of (get_or m s.at 0) → ((x : ℕ) → it.content ≡ Embed x → ⊥) → (r : Spot) → Gathered j m (next m s) r
         → Next j m c (record { spot = r; found = true; run = text_record s.passed (r.passed - s.passed) s.force })
     next-text it e k r g =
         let t = steps m s sk.stands h in
-        let o = other (unpack_of (get_or m s.at 0)).content t.used (here m s).flags.dead (subst (λ (i : Entry). OneOf (0 ∷ 2 ∷ []) (tag_of the_type i.content)) e k) (sk.stops h) t.fits in
+        let o = other (unpack_of (get_or m s.at 0)).content t.used (here m s).flags.dead (subst (λ (i : Entry). (x : ℕ) → i.content ≡ Embed x → ⊥) e k) (sk.stops h) t.fits in
         record {
           stands = g.stands;
           runs = sk.same j ∙ text-gathered j m s sk.stands h awake o.start o.len o.is o.some r g;

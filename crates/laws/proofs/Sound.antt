@@ -22,7 +22,7 @@ small_in k [] x'' h = elim x'' [ ]
 small_in k (c ∷ ks) (here e) h = subst (λ (x : ℕ). x < 16) (sym e) h.0
 small_in k (c ∷ ks) (there i) h = small_in k ks i h.1
 
-key-AllSmall : (k : ℕ) → In k keys → k < 16
+key-small : (k : ℕ) → In k keys → k < 16
 unfolding keys
 key-small k i = small_in k keys i (omega arith, (omega arith, (omega arith, (omega arith, (omega arith, (omega arith, (omega arith, (omega arith, (omega arith, (omega arith, (omega arith, (omega arith, (omega arith, (omega arith, (omega arith, (omega arith, tt))))))))))))))))
 

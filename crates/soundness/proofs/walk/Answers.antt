@@ -39,8 +39,8 @@ len_is : (c : After-text_len-sum) → (
     )
 len_is c =
     let e = rw (c.kind_of-kind.ensures, c.payload_of-payload.ensures.0) at c.text_len-sum.ensures in
-    let (goal.at.After-text_len-sum c).At-loop-k = ok-len _ _ _ (word-parts _ _ _ (word-is c)).2 in
-    (e, omega (arith, e, (goal.at.After-text_len-sum c).At-loop-k))
+    let bound = ok-len _ _ _ (word-parts _ _ _ (word-is c)).2 in
+    (e, omega (arith, e, bound))
 
 -- what the turn adds to the visible length
 added : (c : After-shown_len-len) → (

@@ -51,4 +51,4 @@ returns c =
     let skipped = c.skip-s.ensures in
     let unpacked = c.unpack-it.ensures in
     let gathered = rw (c.past-on.ensures, unpacked) at c.gather-end.ensures in
-    rw c.text_run.ensures (next-text _ _ _ _ skipped (some (goal.at.returns c).Else-s-eq0) _ unpacked c.in_default.NOT _ gathered)
+    rw c.text_run.ensures (next-text _ _ _ _ skipped (some (goal.at.returns c).Else-s-eq0) _ unpacked c.in_default.not-Embed _ gathered)
