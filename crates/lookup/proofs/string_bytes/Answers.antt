@@ -34,7 +34,7 @@ returns-then-kind-eq-INT c =
     rw (given, ← kind, ne_eqb _ _ c.if-kind-eq-BOOL.false, eq-eqb _ _ c.if-kind-eq-INT.true)
 
 pub content-requires : goal.content-requires
-content-requires c = kind-at-requires (goal.at.content-requires c).After-wide-slot κs
+content-requires c = kind_at-kind-requires (goal.at.content-requires c).After-wide-slot
 
 pub returns : goal.returns
 unfolding string_of value_at value_of bytes_of

@@ -24,7 +24,7 @@ kind_at-kind-requires c =
     (omega (arith, c.wide-slot.ensures), given.sound.full)
 
 pub content-requires : goal.content-requires
-content-requires c = kind-at-requires (goal.at.content-requires c).After-wide-slot κs
+content-requires c = kind_at-kind-requires (goal.at.content-requires c).After-wide-slot
 
 pub number_of-requires : goal.number_of-requires
 number_of-requires c =
@@ -41,7 +41,7 @@ returns-then-kind-eq-BOOL c =
     rw (given, ← kind, eq-eqb _ _ c.if-kind-eq-BOOL.true, number)
 
 pub content-requires-then-kind-eq-INT : goal.content-requires-then-kind-eq-INT
-content-requires-then-kind-eq-INT c = kind-at-requires (goal.at.content-requires-then-kind-eq-INT c).After-wide-slot κs
+content-requires-then-kind-eq-INT c = kind_at-kind-requires (goal.at.content-requires-then-kind-eq-INT c).After-wide-slot
 
 pub number_of-requires-then-kind-eq-INT : goal.number_of-requires-then-kind-eq-INT
 number_of-requires-then-kind-eq-INT c =
@@ -55,7 +55,7 @@ returns-then-kind-eq-INT c =
     let given = sym c.given_value.ensures ∙ c.if-not-given_value.false in
     let kind = rw c.wide-slot.ensures at c.kind_at-kind.ensures in
     let number = rw (c.content-then-kind-eq-INT.ensures, c.wide-slot.ensures) at c.number_of-then-kind-eq-INT.ensures in
-    let fits : SFits w64 c.integer_of.result = record { sfits = c.integer_of.type-inv } in
+    let fits : SFits w64 c.integer_of.result = record { sfits = c.integer_of.type_inv } in
     rw (given, ← kind, ne_eqb _ _ c.if-kind-eq-BOOL.false, eq-eqb _ _ c.if-kind-eq-INT.true, to_z-of_z fits, c.integer_of.ensures, number)
 
 pub returns : goal.returns

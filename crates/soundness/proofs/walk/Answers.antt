@@ -87,7 +87,7 @@ bounds-items-i c =
 pub word_ok-requires : goal.word_ok-requires
 word_ok-requires c =
     let pre = c.requires in
-    record { used_in_bounds = omega (arith, pre.0.room, pre.0.used); plain = pre.1 }
+    record { used_in_bounds = omega (arith, pre.sized.room, pre.sized.used); plain = pre.plain }
 
 pub returns-then-not-word_ok : goal.returns-then-not-word_ok
 returns-then-not-word_ok c = measured-broken _ _ _ _ c.broken-then-not-word_ok.ensures (sym (whole_is (goal.at.returns-then-not-word_ok c).At-loop-k ∙ rest-bad _ _ _ _ _ _ _ (omega arith) (sym c.word_ok.ensures ∙ c.if-not-word_ok.true)))

@@ -26,13 +26,13 @@ pub loop-i-init : goal.loop-i-init
 loop-i-init c = (omega arith, omega arith)
 
 pub overflow_add-sum : goal.overflow_add-sum
-overflow_add-sum c = omega (arith, c.loop-i.invariant.1, c.loop-i-test.true, c.requires, c.brought.type-inv)
+overflow_add-sum c = omega (arith, c.loop-i.invariant.1, c.loop-i-test.true, c.requires, c.brought.type_inv)
 
 pub loop-i-preserved : goal.loop-i-preserved
 loop-i-preserved c = (
   ap (λ (k : ℕ). c.loop-i.sum + k + bringing (drop (c.loop-i.i + 1) (given c.args.delta))) c.brought.ensures
       ∙ total-next (given c.args.delta) c.loop-i.i _ (next-is (goal.at.loop-i-preserved c).In-loop-i) _ c.loop-i.invariant.0,
-  omega (arith, c.loop-i.invariant.1, c.brought.type-inv),
+  omega (arith, c.loop-i.invariant.1, c.brought.type_inv),
 )
 
 pub returns : goal.returns
