@@ -12,7 +12,7 @@ use Rattle.arena.specs.Places.{Carried, Going, forward_of, staying}
 use Rattle.arena.proofs.Walks.{going_end, going-here, going-ahead, going-stopped}
 use Rattle.marks.specs.Moves.{passable, settling}
 
-module _ {f : Move} {h : Head} {m : List ℕ} {p : Place} {a : Set} {h₁ : Head} {m₁ : List ℕ} {p₁ : Place} (o : Going f h m p (settling a) h₁ m₁ p₁) where
+module _ {f : Move} {h : Head} {m : List ℕ} {p : Place} (a : Set) {h₁ : Head} {m₁ : List ℕ} {p₁ : Place} (o : Going f h m p (settling a) h₁ m₁ p₁) where
   pub settled-end : p₁.todo ≤ 0 → Carried f h m p h₁ m₁ p₁
   settled-end z = going-stopped (going_end o z staying (λ e n. refl))
 

@@ -1,5 +1,3 @@
 pub mod Tallies
 pub mod Fronts
 pub mod Fills
-pub mod Steps
-pub mod Lent

@@ -30,7 +30,7 @@ pub bounds-items-i : goal.bounds-items-i
 bounds-items-i c = (right_lt (here (goal.at.bounds-items-i c).In-loop-at).stands c.loop-at-test.true).1
 
 pub returns-then-not-passes : goal.returns-then-not-passes
-returns-then-not-passes c = settled-stop (here (goal.at.returns-then-not-passes c).In-loop-at) c.loop-at-test.true (sym c.passes.ensures ∙ c.if-not-passes.true)
+returns-then-not-passes c = settled-stop _ (here (goal.at.returns-then-not-passes c).In-loop-at) c.loop-at-test.true (sym c.passes.ensures ∙ c.if-not-passes.true)
 
 pub forward-at-requires : goal.forward-at-requires
 forward-at-requires c = (c.loop-at-test.true, (right_lt (here (goal.at.forward-at-requires c).In-loop-at).stands c.loop-at-test.true).1)
@@ -39,7 +39,7 @@ pub loop-at-smaller : goal.loop-at-smaller
 loop-at-smaller c = rw c.forward-at.ensures (omega arith)
 
 pub loop-at-preserved : goal.loop-at-preserved
-loop-at-preserved c = λ h s. settled-past (c.loop-at.invariant h s) c.loop-at-test.true (sym c.passes.ensures ∙ c.if-not-passes.false) _ c.forward-at.ensures
+loop-at-preserved c = λ h s. settled-past _ (c.loop-at.invariant h s) c.loop-at-test.true (sym c.passes.ensures ∙ c.if-not-passes.false) _ c.forward-at.ensures
 
 pub returns : goal.returns
-returns c = settled-end (c.loop-at.invariant c.args.h c.requires) c.loop-at-test.false
+returns c = settled-end _ (c.loop-at.invariant c.args.h c.requires) c.loop-at-test.false

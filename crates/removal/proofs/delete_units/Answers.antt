@@ -43,10 +43,10 @@ delete-requires c = (right_lt c.split-cut.ensures.stands (cut-more c.loop-at.inv
 pub forward-place-requires : goal.forward-place-requires
 forward-place-requires c =
     let more = (cut-more c.loop-at.invariant.stands c.loop-at-test.true c.split-cut.ensures).0 in
-    (more, omega (arith, (right_lt c.split-cut.ensures.stands more).1, c.delete.auto.0))
+    (more, omega (arith, (right_lt c.split-cut.ensures.stands more).1, c.delete.auto.items))
 
 pub shape_of-items-then-rest-w : goal.shape_of-items-then-rest-w
-shape_of-items-then-rest-w c = c.delete.auto.0 ∙ c.split-cut.ensures.stands.arena.long ∙ sym c.requires.0.arena.long
+shape_of-items-then-rest-w c = c.delete.auto.items ∙ c.split-cut.ensures.stands.arena.long ∙ sym c.requires.0.arena.long
 
 pub returns-then-rest-w : goal.returns-then-rest-w
 returns-then-rest-w c =
@@ -57,7 +57,7 @@ pub delete_if-requires : goal.delete_if-requires
 delete_if-requires c = (inside (goal.at.delete_if-requires c).In-loop-at).1
 
 pub forward-at-requires : goal.forward-at-requires
-forward-at-requires c = (c.loop-at-test.true, omega (arith, inside (goal.at.forward-at-requires c).After-struct_known-1, c.delete_if.auto.0))
+forward-at-requires c = (c.loop-at-test.true, omega (arith, inside (goal.at.forward-at-requires c).In-loop-at, c.delete_if.auto.items))
 
 pub loop-at-smaller : goal.loop-at-smaller
 loop-at-smaller c = rw c.forward-at.ensures (omega (arith, c.loop-at-test.true))

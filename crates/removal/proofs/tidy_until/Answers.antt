@@ -35,7 +35,7 @@ pub delete_if-requires : goal.delete_if-requires
 delete_if-requires c = (inside (goal.at.delete_if-requires c).In-loop-at).1
 
 pub forward-at-requires : goal.forward-at-requires
-forward-at-requires c = (omega (arith, c.loop-at-test.true), omega (arith, inside (goal.at.forward-at-requires c).After-struct_known-1, c.delete_if.auto.0))
+forward-at-requires c = (omega (arith, c.loop-at-test.true), omega (arith, inside (goal.at.forward-at-requires c).In-loop-at, c.delete_if.auto.items))
 
 pub loop-at-smaller : goal.loop-at-smaller
 loop-at-smaller c = rw c.forward-at.ensures (omega (arith, c.loop-at-test.true))

@@ -2,6 +2,7 @@
 use borrow.Author.Rules.{rules}
 use borrow.Author.Tests.{eq-eqb, ne_eqb, not-true, not-false}
 use mathlib.Core.Path.{sym, ◌∙◌}
+use Rattle.attrs.specs.Packed.{env_of}
 use Rattle.assembling.proofs.Pendings.{kept-has, kept_lacks}
 use Rattle.assembling.proofs.marks.pending_of.Goals as goal
 
@@ -14,10 +15,10 @@ returns-then-not-s c = rw (not-true c.args.s.was c.if-not-s.true, c.if-s.false)
 pub returns-then-has : goal.returns-then-has
 returns-then-has c =
     rw (c.pending_kept.ensures, c.get-then-has.ensures.is, not-false c.args.s.was c.if-not-s.false, c.if-s-2.true)
-    (kept-has _ _ _ _ _ (sym c.has.ensures ∙ c.if-has.true))
+    (kept-has c.args.a.attrs c.args.key (env_of c.args.a.old c.args.key) (env_of c.args.a.current c.args.key) _ (sym c.has.ensures ∙ c.if-has.true))
 
 pub returns-then-s-2 : goal.returns-then-s-2
-returns-then-s-2 c = rw (not-false c.args.s.was c.if-not-s.false, c.if-s-2.true) (kept_lacks _ _ _ _ _ (sym c.has.ensures ∙ c.if-has.false))
+returns-then-s-2 c = rw (not-false c.args.s.was c.if-not-s.false, c.if-s-2.true) (kept_lacks c.args.a.attrs c.args.key (env_of c.args.a.old c.args.key) (env_of c.args.a.current c.args.key) c.args.value (sym c.has.ensures ∙ c.if-has.false))
 
 pub returns-then-now-value : goal.returns-then-now-value
 returns-then-now-value c = rw (not-false c.args.s.was c.if-not-s.false, c.if-s-2.false, ← c.get-now.ensures.is, eq-eqb _ _ c.if-now-value.true)

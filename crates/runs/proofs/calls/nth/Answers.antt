@@ -21,7 +21,7 @@ returns-then-not-c c =
       runs =
           ap (drop args.n) c.next_run-c.ensures.runs
           ∙ sym c.loop-k.invariant.1
-          ∙ drop-none args.joined args.items.now c.loop-k.c c.loop-k.k (c.if-not-c.true);
+          ∙ drop-none args.joined args.items.now c.loop-k.c c.loop-k.k (not-true _ c.if-not-c.true);
     }
 
 pub next_run-c-requires-in-loop-k : goal.next_run-c-requires-in-loop-k
@@ -37,7 +37,7 @@ pub loop-k-preserved : goal.loop-k-preserved
 loop-k-preserved c =
     let args = c.args in (
       c.next_run-c-in-loop-k.ensures.stands,
-      sym (drop_more args.joined args.items.now c.loop-k.c c.next_run-c-in-loop-k.result c.next_run-c-in-loop-k.ensures c.loop-k.k c.loop-k-test.true (c.if-not-c.false))
+      sym (drop_more args.joined args.items.now c.loop-k.c c.next_run-c-in-loop-k.result c.next_run-c-in-loop-k.ensures c.loop-k.k c.loop-k-test.true (not-false _ c.if-not-c.false))
           ∙ c.loop-k.invariant.1,
     )
 

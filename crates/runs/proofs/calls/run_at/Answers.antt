@@ -15,9 +15,9 @@ nth-c-requires c = begun _ _ _ true (sym c.sound.ensures ∙ c.if-not-sound.fals
 pub returns-then-not-c : goal.returns-then-not-c
 returns-then-not-c c =
     let ok = sym c.sound.ensures ∙ c.if-not-sound.false in
-    run_none _ _ _ _ ok _ c.start.ensures _ _ c.nth-c.ensures _ (c.if-not-c.true) c.blank-then-not-c.ensures
+    run_none _ _ _ _ ok _ c.start.ensures _ _ c.nth-c.ensures _ (not-true _ c.if-not-c.true) c.blank-then-not-c.ensures
 
 pub returns : goal.returns
 returns c =
     let ok = sym c.sound.ensures ∙ c.if-not-sound.false in
-    run-here _ _ _ _ ok _ c.start.ensures _ _ c.nth-c.ensures (c.if-not-c.false)
+    run-here _ _ _ _ ok _ c.start.ensures _ _ c.nth-c.ensures (not-false _ c.if-not-c.false)
