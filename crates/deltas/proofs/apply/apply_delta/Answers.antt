@@ -11,7 +11,7 @@ use borrow.Author.Rules.{rules}
 use Rattle.deltas.proofs.apply.apply_delta.Goals as goal
 use Rattle.deltas.proofs.apply.apply_delta.Goals.{Else-many, Else-not-m}
 
-abbrev first : tie.After-measure → tie.Start
+abbrev first : After-measure → Start
 first c = c.before.before.before.before.before.before.before.before
 
 sound-here : (c : Else-not-m) → (

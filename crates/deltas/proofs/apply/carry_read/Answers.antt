@@ -16,11 +16,11 @@ use borrow.Author.Rules.{rules}
 use Rattle.deltas.proofs.apply.carry_read.Goals as goal
 use Rattle.deltas.proofs.apply.carry_read.Goals.{After-delta_fault-wrong, Else-new-start}
 
-abbrev first : tie.After-delta-fault → tie.Start
+abbrev first : After-delta-fault → Start
 first c = c.before.before.before.before.before.before
 
 -- the call that is asked for
-abbrev asked : tie.Start → Call
+abbrev asked : Start → Call
 asked s = apply_delta (ops_of s.args.chunk.now s.args.delta)
 
 -- it has room for its units

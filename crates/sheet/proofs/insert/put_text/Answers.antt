@@ -21,11 +21,11 @@ use borrow.Author.Rules.{rules}
 use Rattle.sheet.proofs.insert.put_text.Goals as goal
 use Rattle.sheet.proofs.insert.put_text.Goals.{After-shared_slice_known-1, After-slice_known-2-1, After-sound, Else-chunk-eq0, Else-not-sound}
 
-abbrev first : tie.After-sound → tie.Start
+abbrev first : After-sound → Start
 first c = c.before.before.before.before.before.before
 
 -- the call that is asked for, and its ruling
-abbrev asked : tie.Start → Call
+abbrev asked : Start → Call
 asked s = text_call s.args.plain s.args.index s.args.chunk.now (says s.args.attrs)
 
 sound-here : (c : Else-not-sound) → (
@@ -55,16 +55,16 @@ pub text_fault-fault-requires : goal.text_fault-fault-requires
 text_fault-fault-requires c = sound-here (goal.at.text_fault-fault-requires c).After-shared_slice_known-1
 
 pub returns-then-fault-ne0 : goal.returns-then-fault-ne0
-returns-then-fault-ne0 c = carry-faulty (asked (first (goal.at.returns-then-fault-ne0 c).After-slice_known-2-1)) _ _ _ (sound-here (goal.at.returns-then-fault-ne0 c).After-shared_slice_known-1) _ (ruled (goal.at.returns-then-fault-ne0 c).After-sound) _ c.text_fault-fault.ensures c.if-fault-ne0.true
+returns-then-fault-ne0 c = carry-faulty (asked (first (goal.at.returns-then-fault-ne0 c).After-slice_known-2-1)) _ _ _ (sound-here (goal.at.returns-then-fault-ne0 c).Else-not-sound) _ (ruled (goal.at.returns-then-fault-ne0 c).Else-chunk-eq0) _ c.text_fault-fault.ensures c.if-fault-ne0.true
 
 pub overflow_sub-start : goal.overflow_sub-start
-overflow_sub-start c = omega (arith, (sound-parts _ _ _ (sound-here (goal.at.overflow_sub-start c).After-shared_slice_known-1)).used)
+overflow_sub-start c = omega (arith, (sound-parts _ _ _ (sound-here (goal.at.overflow_sub-start c).Else-not-sound)).used)
 
 pub returns-then-chunk-start : goal.returns-then-chunk-start
 returns-then-chunk-start c =
     let a = (first (goal.at.returns-then-chunk-start c).After-slice_known-2-1).args in
-    let over : 16384 < length (take a.h.units a.units.now ++ a.chunk.now) = omega (arith, c.if-chunk-start.true, text-long a.plain a.index a.chunk.now (says a.attrs) a.h a.items.now a.units.now (sound-here (goal.at.returns-then-chunk-start c).After-shared_slice_known-1)) in
-    carry-crowded (asked (first (goal.at.returns-then-chunk-start c).After-slice_known-2-1)) _ _ _ (sound-here (goal.at.returns-then-chunk-start c).After-shared_slice_known-1) _ (ruled (goal.at.returns-then-chunk-start c).After-sound) _ c.text_fault-fault.ensures c.if-fault-ne0.false over
+    let over : 16384 < length (take a.h.units a.units.now ++ a.chunk.now) = omega (arith, c.if-chunk-start.true, text-long a.plain a.index a.chunk.now (says a.attrs) a.h a.items.now a.units.now (sound-here (goal.at.returns-then-chunk-start c).Else-not-sound)) in
+    carry-crowded (asked (first (goal.at.returns-then-chunk-start c).After-slice_known-2-1)) _ _ _ (sound-here (goal.at.returns-then-chunk-start c).Else-not-sound) _ (ruled (goal.at.returns-then-chunk-start c).Else-chunk-eq0) _ c.text_fault-fault.ensures c.if-fault-ne0.false over
 
 pub edit-done-requires : goal.edit-done-requires
 edit-done-requires c =
@@ -74,7 +74,7 @@ edit-done-requires c =
 
 pub append_accepted-requires : goal.append_accepted-requires
 append_accepted-requires c =
-    let sound = sound-parts _ _ _ (sound-here (goal.at.append_accepted-requires c).After-shared_slice_known-1) in
+    let sound = sound-parts _ _ _ (sound-here (goal.at.append_accepted-requires c).Else-not-sound) in
     omega (arith, c.if-chunk-start.false, sound.used, sound.room)
 
 pub returns : goal.returns
@@ -83,6 +83,6 @@ returns c =
     let a = s.args in
     let sound = sound-here (goal.at.returns c).After-shared_slice_known-1 in
     let few : a.h.units + length a.chunk.now ≤ 16384 = omega (arith, c.if-chunk-start.false, (sound-parts _ _ _ sound).used) in
-    carry-granted (asked s) _ _ _ sound _ (ruled (goal.at.returns c).After-sound) _ c.text_fault-fault.ensures c.if-fault-ne0.false _ (text-long a.plain a.index a.chunk.now (says a.attrs) a.h a.items.now a.units.now sound) few _
+    carry-granted (asked s) _ _ _ sound _ (ruled (goal.at.returns c).Else-chunk-eq0) _ c.text_fault-fault.ensures c.if-fault-ne0.false _ (text-long a.plain a.index a.chunk.now (says a.attrs) a.h a.items.now a.units.now sound) few _
     (granted_by _ _ _ _ _ _ c.edit-done.ensures c.text_change-change.ensures)
     _ c.append_accepted.ensures

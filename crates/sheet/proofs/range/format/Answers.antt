@@ -12,10 +12,10 @@ use borrow.Author.Rules.{rules}
 use Rattle.sheet.proofs.range.format.Goals as goal
 use Rattle.sheet.proofs.range.format.Goals.{After-shared_slice_known-1, After-sound, Else-not-sound}
 
-abbrev first : tie.After-sound → tie.Start
+abbrev first : After-sound → Start
 first c = c.before.before.before.before
 
-abbrev asked : tie.Start → Call
+abbrev asked : Start → Call
 asked s = format_range s.args.index s.args.len (says s.args.attrs)
 
 sound-here : (c : Else-not-sound) → (
@@ -31,11 +31,11 @@ pub range_fault-fault-requires : goal.range_fault-fault-requires
 range_fault-fault-requires c = sound-here (goal.at.range_fault-fault-requires c).After-sound
 
 pub returns-then-fault-ne0 : goal.returns-then-fault-ne0
-returns-then-fault-ne0 c = carry-faulty (asked (first (goal.at.returns-then-fault-ne0 c).After-shared_slice_known-1)) _ _ _ (sound-here (goal.at.returns-then-fault-ne0 c).After-sound) _ refl _ c.range_fault-fault.ensures c.if-fault-ne0.true
+returns-then-fault-ne0 c = carry-faulty (asked (first (goal.at.returns-then-fault-ne0 c).After-shared_slice_known-1)) _ _ _ (sound-here (goal.at.returns-then-fault-ne0 c).Else-not-sound) _ refl _ c.range_fault-fault.ensures c.if-fault-ne0.true
 
 pub edit-requires : goal.edit-requires
-edit-requires c = (sound-loads _ _ _ (sound-here (goal.at.edit-requires c).After-sound), tt)
+edit-requires c = (sound-loads _ _ _ (sound-here (goal.at.edit-requires c).Else-not-sound), tt)
 
 pub returns : goal.returns
 unfolding move_of
-returns c = carry-edited (asked (first (goal.at.returns c).After-shared_slice_known-1)) _ _ _ (sound-here (goal.at.returns c).After-sound) _ refl _ c.range_fault-fault.ensures c.if-fault-ne0.false refl _ c.edit.ensures
+returns c = carry-edited (asked (first (goal.at.returns c).After-shared_slice_known-1)) _ _ _ (sound-here (goal.at.returns c).Else-not-sound) _ refl _ c.range_fault-fault.ensures c.if-fault-ne0.false refl _ c.edit.ensures
