@@ -1,13 +1,12 @@
 -- `attrs_main::total` meets its contract: a walk over the keys, by `lowest` and `rest` of `attrs`.
-use mathlib.Core.Path.{◌≡◌, sym, ap, ◌∙◌}
-use Prim.Native.Nat.{◌+◌, ◌*◌, ◌≤◌}
+use mathlib.Core.Path.{sym, ap, ◌∙◌}
 use native.Mathlib.Omega.{arith}
 use borrow.Author.Rules.{rules}
 use lib.ListN.{length}
 use Rattle.sets.specs.Bits.{keys_of}
 use Rattle.attrs.specs.Packed.{env_of}
 use Rattle.sets.proofs.Keys.{keys_none, keys-le, first-nothing}
-use Rattle.attrs.proofs.Slots.{Part, part_all, Turn, turn-lowest, present-keys}
+use Rattle.attrs.proofs.Slots.{part_all, Turn, turn-lowest, present-keys}
 use Rattle.attrs_main.specs.Sum.{sum_of}
 use Rattle.attrs_main.proofs.total.Goals as goal
 use Rattle.attrs_main.proofs.total.Goals.{After-rest-left}
