@@ -27,9 +27,6 @@ returns-in_default c =
     let z = first-nothing c.loop-k.left c.loop-k.invariant.0.fits (sym c.lowest-low.ensures ∙ c.in_default.is) in
     omega (arith, ap (sum_of e) (ap keys_of z ∙ keys_none), ap (sum_of e) (present-keys c.args.a))
 
-pub overflow_add-sum : goal.overflow_add-sum
-overflow_add-sum c = omega (arith, ap length (met (goal.at.overflow_add-sum c).After-rest-left).first)
-
 pub loop-k-smaller : goal.loop-k-smaller
 loop-k-smaller c = (met (goal.at.loop-k-smaller c).After-rest-left).less
 
