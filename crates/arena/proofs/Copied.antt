@@ -13,7 +13,6 @@ use Rattle.rules.specs.Sheet as Sheet
 use Rattle.layout.specs.declared.head.Head.{Head}
 use Rattle.layout.specs.declared.word.Content.{Content}
 use Rattle.layout.specs.declared.word.Content.TheVariants.{Text, Embed, Mark}
-use Rattle.layout.specs.declared.word.Item.{Item}
 use Rattle.layout.specs.Word.{what_of, unpack_of, pack_of}
 use Rattle.layout.specs.Chain.{item_at, next_at, chain, walks, head_or}
 use Rattle.layout.proofs.Links.{walks_parts}

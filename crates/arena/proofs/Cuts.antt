@@ -1,8 +1,8 @@
 -- A text cut in two. Assumes nothing.
-use Prim.Native.Nat.{ℕ, suc, ◌+◌, ◌/◌, ◌<◌, ◌≤◌}
+use Prim.Native.Nat.{ℕ, suc, ◌/◌, ◌<◌, ◌≤◌}
 use native.Mathlib.Numerals.{add-one}
 use native.Mathlib.Omega.{arith}
-use mathlib.Core.Path.{◌≡◌, refl, ap, ap₂, subst, subst⁻¹, ◌∙◌}
+use mathlib.Core.Path.{◌≡◌, refl, ap, ap₂, subst⁻¹, ◌∙◌}
 use mathlib.Core.List.{List, ◌∷◌, ◌++◌}
 use lib.ListN.{length, get_or, set, length-set}
 use Rattle.rules.specs.Sheet.{Item, like, width}

@@ -1,12 +1,12 @@
 -- Joining from the right is joining as one reads: a run that is put ahead of a run that was put ahead. Assumes nothing.
-use Prim.Native.Nat.{ℕ, ◌+◌}
+use Prim.Native.Nat.{ℕ}
 use mathlib.Core.Path.{◌≡◌, refl, sym, ap, ◌∙◌}
 use mathlib.Core.Bool.{Bool, true, false, cond, ◌&&◌, true≢false}
 use mathlib.Core.List.{List, [], ◌∷◌, ◌++◌, append_assoc, append-nil}
 use lib.Dec.{eqb}
 use borrow.Author.Tests.{eqb-true, eq-eqb}
 use Rattle.sets.specs.Sets.{Env, keys, same_force}
-use Rattle.rules.specs.Sheet.{What, text, embed, mark, Item, dead}
+use Rattle.rules.specs.Sheet.{What, text, embed, mark, Item}
 use Rattle.rules.specs.Reading.{Glyph, units_of}
 use Rattle.rules.specs.Runs.{Chunk, words, object, Run, runs_from, is_text, mergeable, merged, ahead, joined}
 

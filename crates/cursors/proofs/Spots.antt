@@ -2,7 +2,6 @@
 use Prim.Native.Nat.{ℕ, zero, suc, ◌+◌, ◌-◌, ◌<◌}
 use native.Mathlib.Omega.{arith}
 use mathlib.Core.Path.{◌≡◌, refl, sym, ap, ap₂, ◌∙◌, subst}
-use mathlib.Core.Logic.{⊎_elim}
 use mathlib.Core.Bool.{Bool, true, false, cond, not, true≢false}
 use mathlib.Core.List.{List, [], ◌∷◌}
 use lib.ListN.{length, get_or}
@@ -13,10 +12,8 @@ use Rattle.rules.specs.Sheet.{What, text, embed, mark, width, Item}
 use Rattle.rules.specs.Reading.{live, pass_key, visible, Glyph, unit, units_of}
 use Rattle.rules.specs.Sound.{Fits, AllFit}
 use Rattle.rules.specs.Runs.{words, object, Run as Stretch, runs_from, ahead, joined}
-use denote.Enum.Declared.{tag_of}
 use Rattle.layout.specs.declared.word.Content.{Content}
 use Rattle.layout.specs.declared.word.Content.TheVariants.{Text, Embed, Mark}
-use Rattle.layout.specs.contracts.word.Content.{the_type}
 use Rattle.layout.specs.declared.word.Item.{Item as Entry}
 use Rattle.layout.specs.Word.{shown_len}
 use Rattle.layout.specs.Word.{what_of, unpack_of}

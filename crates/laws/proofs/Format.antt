@@ -10,7 +10,7 @@ use lib.ListN.{length, take, drop}
 use lib.Seq.{take-nil, drop-nil}
 use borrow.Author.Tests.{eqb-true, leb-true, leb-false, ltb-false}
 use Rattle.sets.specs.Sets.{Slot, absent, is, is_absent, bare, Set, Env, none, keys, lay, slot_is}
-use Rattle.rules.specs.Sheet.{What, text, embed, mark, Item, dead, kill}
+use Rattle.rules.specs.Sheet.{What, text, embed, mark, Item, kill}
 use Rattle.rules.specs.Reading.{live, Glyph, thing, units_of, Cell, paint, lay_cell, cells, force, pass_key, shown}
 use Rattle.rules.specs.Places.{whole, over, and_then, split, close}
 use Rattle.rules.specs.Edits.{by_index, closing, walking, remember, walks_on, format_walk, format}

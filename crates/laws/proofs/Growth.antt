@@ -9,7 +9,7 @@ use lib.Dec.{eqb, leb}
 use lib.ListN.{drop}
 use borrow.Author.Tests.{leb-true, leb-false}
 use Rattle.sets.specs.Sets.{absent, is, is_absent, bare, Set, Env, none, keys, slot_is, is_none}
-use Rattle.rules.specs.Sheet.{What, text, embed, mark, Item, dead, kill, width}
+use Rattle.rules.specs.Sheet.{What, text, embed, mark, Item, kill, width}
 use Rattle.rules.specs.Reading.{live, Glyph, seen_glyphs, force, Op, insert, delete, retain}
 use Rattle.rules.specs.Places.{At, whole, stay, over, Move, after, and_then, split, place, close}
 use Rattle.rules.specs.Edits.{by_index, closing, insert_with, key_in, remember, walks_on, format_walk, walking, format, kill_units, to_end, idle, tidy_item, tidy, delete_here, remove_here, remove}

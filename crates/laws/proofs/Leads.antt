@@ -16,7 +16,7 @@ use Rattle.rules.specs.Places.{whole, Move}
 use Rattle.rules.specs.Edits.{by_index, plain_text, plain_embed, insert_with, format}
 use Rattle.rules.specs.Sound.{Fits, AllFit}
 use Rattle.rules.specs.Calls.{begin_now, Sheet, unit_at, visible_units, bad_range, too_long, Body, words, object, Call, insert_text, insert_text_with, insert_embed, insert_embed_with, format_range, remove_range, apply_delta, laid_out, new_units}
-use Rattle.rules.specs.Rulings.{Ruling, seen, text_ruling, embed_ruling, ruling, Byte, FineOps, FineCall, Edit, NoFault, end, on}
+use Rattle.rules.specs.Rulings.{Ruling, seen, text_ruling, embed_ruling, ruling, Byte, FineOps, FineCall, Edit, NoFault, on}
 use Rattle.laws.proofs.Lists.{or_left, or_right}
 use Rattle.laws.proofs.Grown.{Grown, same, Fresh, embeds, texts}
 use Rattle.laws.proofs.Steps.{FineWhat, FineList, Anyway, Cuttable, Growing, plain_text-grows, plain_embed-grows, insert-grows}

@@ -11,7 +11,7 @@ use lib.ListN.{length, take, drop}
 use lib.Seq.{take_at, drop_at, take-nil, drop-nil, take-append-add, drop-append-add}
 use borrow.Author.Tests.{eq-eqb, eqb-true, leb-true, leb-false}
 use Rattle.sets.specs.Sets.{Slot, absent, is, Set, Env, none, keys, at, lay, slot_is}
-use Rattle.rules.specs.Sheet.{What, text, embed, mark, Item, dead}
+use Rattle.rules.specs.Sheet.{What, text, embed, mark, Item}
 use Rattle.rules.specs.Reading.{Seen, live, Glyph, unit, units_of, glyphs, Cell, paint, cells, force, pass_key, shown}
 use Rattle.rules.specs.Places.{At, whole, stay, over, Move, after, and_then, split, uses, place, settle, mark_for, marks, put_marks, close}
 use Rattle.rules.specs.Edits.{by_index}

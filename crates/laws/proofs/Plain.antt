@@ -7,7 +7,7 @@ use native.Mathlib.Omega.{arith}
 use lib.Dec.{eqb, leb}
 use lib.ListN.{length, take, length-append, length-take}
 use borrow.Author.Tests.{leb-true, leb-false}
-use Rattle.rules.specs.Sheet.{What, text, embed, mark, Item, dead}
+use Rattle.rules.specs.Sheet.{What, text, embed, mark, Item}
 use Rattle.rules.specs.Reading.{live, Glyph, units_of, Cell, paint, cells, force, pass_key, shown}
 use Rattle.rules.specs.Places.{over, split, uses, place}
 use Rattle.rules.specs.Shows.{last_or, inherited}

@@ -7,7 +7,7 @@ use lib.Dec.{eqb}
 use lib.ListN.{length, take, drop, length-append, take-append-drop}
 use lib.Seq.{take_at, drop_at}
 use borrow.Author.Tests.{eqb-true}
-use Rattle.sets.specs.Sets.{Slot, absent, is, Set, Env, keys, bare, at, lay, non_null, as_set}
+use Rattle.sets.specs.Sets.{Slot, absent, is, Set, Env, keys, bare, lay, non_null, as_set}
 use Rattle.rules.specs.Sheet.{What, text, embed, mark, Item}
 use Rattle.rules.specs.Reading.{Seen, Glyph, thing, units_of, glyphs, Cell, paint, lay_cell, cells, set_key, shown, Op, insert, delete, retain, read}
 use Rattle.rules.specs.Event.{Run, idle, inserting, deleting, retaining, Asm, add_op, grow_insert, grow_delete, grow_retain, Change, stays, becomes, change, mark_step, step, changed, pending, told, passed, gather, ahead, finish, fresh, event}

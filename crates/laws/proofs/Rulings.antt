@@ -1,5 +1,5 @@
 -- Every call is its ruling, decided; and each refusal number is given exactly when its reason holds and none that comes before it.
-use Prim.Native.Nat.{ℕ, zero, ◌+◌, ◌≤◌, ◌<◌, min}
+use Prim.Native.Nat.{ℕ, ◌+◌, ◌≤◌, ◌<◌, min}
 use mathlib.Core.Path.{◌≡◌, refl, sym, ap, ◌∙◌}
 use mathlib.Core.Bool.{Bool, true, false, cond, not, ◌&&◌, ◌||◌, false≢true, true≢false}
 use mathlib.Core.List.{List, [], ◌∷◌}

@@ -9,7 +9,7 @@ use native.Mathlib.Omega.{arith}
 use lib.Dec.{eqb}
 use borrow.Author.Tests.{eqb-true, eqb-false}
 use Rattle.sets.specs.Sets.{Env, none, keys, same_force}
-use Rattle.rules.specs.Sheet.{What, text, embed, mark, Item, dead}
+use Rattle.rules.specs.Sheet.{What, text, embed, mark, Item}
 use Rattle.rules.specs.Reading.{live, Glyph, thing, units_of, Cell, paint, cells}
 use Rattle.rules.specs.Runs.{Chunk, words, object, Run, pack, runs_from, runs, is_text, glyphs_of, mergeable, merged, ahead, joined, keys_of, run_keys}
 use Rattle.laws.proofs.Lists.{paint-append, In, here, there, and_left, and_right}

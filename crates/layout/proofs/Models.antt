@@ -20,7 +20,7 @@ use Rattle.layout.specs.Chain.{END, item_at, next_at, chain, head_or}
 use Rattle.layout.specs.Heads.{grown_head}
 use Rattle.layout.specs.Memory.{list_of, model_of, what_ok, word_ok, each_ok, sound_of, Sound, stored, stored_units}
 use Rattle.layout.proofs.Links.{head-is, length-chain}
-use Rattle.layout.proofs.Numbers.{Once, below_yes, once, once-parts}
+use Rattle.layout.proofs.Numbers.{Once, below_yes, once-parts}
 use Rattle.layout.proofs.Soundness.{piece_in, piece-parts, mark-parts, word_on, word-parts, sound-parts, sound-whole}
 use Rattle.layout.proofs.Copies.{walk-once}
 use Rattle.layout.proofs.Stored.{Holds, AllHold, chain-holds, each-parts, each_more, each_at, length-stored, Lying, stored_same, stored-lies}

@@ -1,6 +1,6 @@
 -- What writes do to the list. Three laws serve every write: a word that is not on the chain does not count (`keep`), a word that keeps its link changes its own
 -- item (`edit-chain`), and a new word behind item l stands behind l's item (`link-after`). The laws of the crate's writes, `kill_law` and `put_law`, follow. Assumes nothing.
-use Prim.Native.Nat.{ℕ, zero, suc, ◌+◌, ◌/◌, ◌%◌, ◌<◌, ◌≤◌}
+use Prim.Native.Nat.{ℕ, zero, suc, ◌/◌, ◌%◌, ◌<◌, ◌≤◌}
 use native.Mathlib.Omega.{arith}
 use mathlib.Core.Path.{◌≡◌, refl, sym, ap, ap₂, ◌∙◌}
 use mathlib.Core.Bool.{Bool, true, false, cond}

@@ -1,5 +1,5 @@
 -- The edits, as moves from a place, and by index.
-use Rattle.std.specs.Prelude.{ℕ, zero, suc, ◌+◌, ◌-◌, Bool, false, cond, not, ◌&&◌, ◌||◌, List, [], ◌∷◌, ◌++◌, map, eqb, leb, ltb}
+use Rattle.std.specs.Prelude.{ℕ, zero, suc, ◌-◌, Bool, false, cond, not, ◌&&◌, ◌||◌, List, [], ◌∷◌, ◌++◌, map, eqb, leb, ltb}
 use Rattle.sets.specs.Sets.{absent, is, Set, empty, Env, none, keys, at, is_absent, bare, is_none, slot_is, opened, former, completed}
 use Rattle.rules.specs.Sheet.{What, text, embed, mark, Item, dead, new, kill, width, is_mark}
 use Rattle.rules.specs.Places.{At, stay, over, Move, after, and_then, split, place, settle, put_marks, put, close}

@@ -1,5 +1,5 @@
 -- What a call asks for, before it is granted or refused; the refusals one by one; and what a sound sheet is.
-use Rattle.std.specs.Prelude.{ℕ, zero, ◌+◌, ◌-◌, ◌≤◌, ◌<◌, min, ◌≡◌, Bool, true, false, cond, not, ◌||◌, List, [], ◌∷◌, ◌++◌, ◌↔◌, eqb, ltb, length}
+use Rattle.std.specs.Prelude.{ℕ, ◌+◌, ◌-◌, ◌≤◌, ◌<◌, min, ◌≡◌, Bool, true, false, cond, not, ◌||◌, List, [], ◌∷◌, ◌++◌, ◌↔◌, eqb, ltb, length}
 use Rattle.units.specs.Surrogates.{paired, splits_pair}
 use Rattle.sets.specs.Sets.{is, Set}
 use Rattle.rules.specs.Sheet.{What, text, embed, mark, Item, begin}

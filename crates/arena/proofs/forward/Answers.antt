@@ -1,6 +1,5 @@
 -- `arena::forward` meets its contract. Assumes nothing.
 use Rattle.arena.proofs.Forces.{forward-told}
-use borrow.Author.Rules.{rules}
 use mathlib.Core.Bool.{true, false}
 use Rattle.arena.proofs.forward.Goals as goal
 

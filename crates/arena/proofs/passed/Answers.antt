@@ -1,6 +1,5 @@
 -- `arena::passed` meets its contract. Assumes nothing.
 use Rattle.arena.specs.Places.{passed_force}
-use borrow.Author.Rules.{rules}
 use Rattle.arena.proofs.passed.Goals as goal
 
 pub returns-in-Text : goal.returns-in-Text

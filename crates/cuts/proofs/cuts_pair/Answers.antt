@@ -1,6 +1,5 @@
 -- `cuts::cuts_pair` meets its contract: units without a half are not cut, else the walk decides. Assumes nothing.
 use mathlib.Core.Path.{sym, ◌∙◌}
-use borrow.Author.Rules.{rules}
 use borrow.Author.Tests.{eqb-true}
 use Rattle.layout.specs.Memory.{list_of}
 use Rattle.cuts.proofs.Bare.{none-cut}

@@ -1,14 +1,9 @@
 -- `cuts::falls_in_pair` meets its contract: what is left of the index falls into the rest of the list as the whole index into the whole. Assumes nothing.
-use Prim.Native.Nat.{◌≤◌, ◌<◌}
-use mathlib.Core.Path.{◌≡◌, refl, sym, ◌∙◌}
-use mathlib.Core.Bool.{true}
+use Prim.Native.Nat.{◌<◌}
+use mathlib.Core.Path.{refl, sym, ◌∙◌}
 use native.Mathlib.Omega.{arith}
-use borrow.Author.Rules.{rules}
 use lib.ListN.{length}
-use Rattle.rules.specs.Sound.{AllFit}
-use Rattle.layout.specs.Chain.{chain, walks}
 use Rattle.layout.proofs.Links.{walks-lt, walks_next}
-use Rattle.cuts.specs.Cuts.{cut_at}
 use Rattle.cuts.proofs.Seams.{seam}
 use Rattle.cuts.proofs.Falls.{falls-in, falls-past, falls-end, lies-here, fits_on}
 use Rattle.cuts.proofs.falls_in_pair.Goals as goal

@@ -1,15 +1,10 @@
-use Prim.Native.Nat.{◌≤◌, ◌<◌}
-use mathlib.Core.Path.{◌≡◌, refl, sym, ◌∙◌}
+use Prim.Native.Nat.{◌≤◌}
+use mathlib.Core.Path.{◌≡◌}
 use mathlib.Core.Bool.{true}
-use native.Mathlib.Omega.{arith}
-use borrow.Author.Rules.{rules}
 use lib.ListN.{length}
 use Rattle.rules.specs.Sound.{AllFit}
 use Rattle.layout.specs.Chain.{chain, walks}
-use Rattle.layout.proofs.Links.{walks-lt, walks_next}
 use Rattle.cuts.specs.Cuts.{cut_at}
-use Rattle.cuts.proofs.Seams.{seam}
-use Rattle.cuts.proofs.Falls.{falls-in, falls-past, falls-end, lies-here, fits_on}
 use Rattle.cuts.proofs.falls_in_pair.Given as goal
 
 abbrev pub invariant-loop-k : goal.invariant-loop-k

@@ -1,5 +1,4 @@
 -- `encoding::op_at` meets its contract. Assumes nothing.
-use borrow.Author.Rules.{rules}
 use borrow.Author.Tests.{lt-ltb, le-ltb}
 use Rattle.encoding.specs.Words.{found_at, op_from}
 use Rattle.encoding.proofs.op_at.Goals as goal

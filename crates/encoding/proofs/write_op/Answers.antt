@@ -1,5 +1,4 @@
 -- `encoding::write_op` meets its contract. Assumes nothing.
-use borrow.Author.Rules.{rules}
 use native.Mathlib.Omega.{arith}
 use lib.ListN.{length-set}
 use Rattle.encoding.proofs.Stores.{eight}

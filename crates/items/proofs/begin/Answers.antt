@@ -1,13 +1,11 @@
 -- `items::begin` meets its contract. Assumes nothing.
 use native.Mathlib.Omega.{arith}
 use mathlib.Core.Path.{sym, ap, ◌∙◌}
-use borrow.Author.Tests.{not-true, not-false}
 use Rattle.rules.specs.Calls.{begin_now, call}
 use Rattle.layout.specs.Memory.{Carried}
 use Rattle.items.specs.Calls.{answer_of}
 use Rattle.layout.proofs.Soundness.{sound-parts}
 use Rattle.items.proofs.Carries.{carry-broken, begin-head, begin-words}
-use borrow.Author.Rules.{rules}
 use Rattle.items.proofs.begin.Goals as goal
 
 pub returns-then-not-sound : goal.returns-then-not-sound

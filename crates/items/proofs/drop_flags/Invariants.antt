@@ -1,9 +1,6 @@
-use Prim.Native.Nat.{ℕ, ◌≤◌, ◌<◌, ◌-◌}
-use native.Mathlib.Omega.{arith}
-use mathlib.Core.Path.{◌≡◌, refl, ap, ◌∙◌}
-use lib.ListN.{length, get_or}
+use Prim.Native.Nat.{◌≤◌, ◌-◌}
+use mathlib.Core.Path.{◌≡◌}
 use Rattle.items.specs.Calls.{rest_word, sweep_to}
-use Rattle.items.proofs.Sweeps.{sweep-length, sweep-more}
 use Rattle.items.proofs.drop_flags.Given as goal
 
 abbrev pub invariant-loop-i : goal.invariant-loop-i

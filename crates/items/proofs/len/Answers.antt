@@ -1,6 +1,5 @@
 -- `items::len` meets its contract. Assumes nothing.
 use mathlib.Core.Path.{sym, ◌∙◌}
-use borrow.Author.Rules.{rules}
 use borrow.Author.Tests.{not-true, not-false}
 use Rattle.soundness.proofs.Measures.{sound-is, len_is}
 use Rattle.items.proofs.Showing.{length-broken, length-is}

@@ -2,11 +2,9 @@
 use native.Mathlib.Omega.{arith}
 use mathlib.Core.Path.{◌≡◌, sym, ◌∙◌}
 use mathlib.Core.Bool.{true}
-use borrow.Author.Tests.{not-true, not-false}
 use Rattle.layout.specs.Memory.{sound_of}
 use Rattle.layout.proofs.Soundness.{sound-parts}
 use Rattle.items.proofs.Showing.{text-broken, text-unused, text-is, text-room, text-part}
-use borrow.Author.Rules.{rules}
 use Rattle.items.proofs.text_of.Goals as goal
 use Rattle.items.proofs.text_of.Goals.{After-struct_known-1, Else-n-h}
 

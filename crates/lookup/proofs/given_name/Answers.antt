@@ -1,7 +1,5 @@
 -- `lookup::given_name` meets its contract. Assumes nothing.
 use mathlib.Core.Path.{sym, ◌∙◌}
-use borrow.Author.Tests.{not-true, not-false}
-use borrow.Author.Rules.{rules}
 use Rattle.lookup.specs.Show.{given_name}
 use Rattle.lookup.proofs.given_name.Goals as goal
 

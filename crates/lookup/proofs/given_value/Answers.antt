@@ -1,7 +1,6 @@
 -- `lookup::given_value` meets its contract. Assumes nothing.
 use mathlib.Core.Path.{sym, ◌∙◌}
-use borrow.Author.Tests.{not-true, not-false, eq-eqb, ne_eqb}
-use borrow.Author.Rules.{rules}
+use borrow.Author.Tests.{eq-eqb, ne_eqb}
 use Rattle.lookup.specs.Show.{given_value}
 use Rattle.lookup.proofs.given_value.Goals as goal
 

@@ -1,8 +1,6 @@
 -- `lookup::name_bytes` meets its contract. Assumes nothing.
 use native.Mathlib.Omega.{arith}
 use mathlib.Core.Path.{sym, ◌∙◌}
-use borrow.Author.Tests.{not-true, not-false}
-use borrow.Author.Rules.{rules}
 use Rattle.lookup.specs.Show.{name_of}
 use Rattle.lookup.proofs.Numbers.{given-name}
 use Rattle.lookup.proofs.name_bytes.Goals as goal

@@ -1,8 +1,7 @@
 -- `lookup::string_bytes` meets its contract. Assumes nothing.
 use native.Mathlib.Omega.{arith}
 use mathlib.Core.Path.{sym, ◌∙◌}
-use borrow.Author.Tests.{not-true, not-false, eq-eqb, ne_eqb}
-use borrow.Author.Rules.{rules}
+use borrow.Author.Tests.{eq-eqb, ne_eqb}
 use Rattle.lookup.specs.Show.{value_of, bytes_of, string_of, value_at}
 use Rattle.lookup.proofs.Numbers.{given-value}
 use Rattle.lookup.proofs.string_bytes.Goals as goal

@@ -5,8 +5,7 @@ use mathlib.Core.Logic.{inl, inr}
 use mir.Syntax.{w64}
 use mir.Val.{SFits}
 use mir.Facts.{to_z-of_z}
-use borrow.Author.Tests.{not-true, not-false, eq-eqb, ne_eqb}
-use borrow.Author.Rules.{rules}
+use borrow.Author.Tests.{eq-eqb, ne_eqb}
 use Rattle.lookup.specs.Show.{value_of, shown_of, value_at, case_of}
 use Rattle.lookup.proofs.Numbers.{given-value, given_short}
 use Rattle.lookup.proofs.value_at.Goals as goal

@@ -1,6 +1,5 @@
 -- `refusals::embed_fault` meets its contract. Assumes nothing.
 use mathlib.Core.Path.{sym, ◌∙◌}
-use borrow.Author.Rules.{rules}
 use Rattle.refusals.proofs.embed_fault.Goals as goal
 
 pub returns-then-in_pair : goal.returns-then-in_pair

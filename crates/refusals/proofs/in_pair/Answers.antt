@@ -1,6 +1,5 @@
 -- `refusals::in_pair` meets its contract. Assumes nothing.
 use Rattle.cuts.proofs.Sounds.{used-is, sound-reads}
-use borrow.Author.Rules.{rules}
 use Rattle.refusals.proofs.in_pair.Goals as goal
 
 pub slice_bounds-cuts_pair-end : goal.slice_bounds-cuts_pair-end

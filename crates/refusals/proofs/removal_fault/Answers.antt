@@ -6,7 +6,6 @@ use Rattle.rules.specs.Rulings.{seen}
 use Rattle.layout.specs.Memory.{model_of}
 use Rattle.cuts.proofs.Sounds.{length-is}
 use Rattle.refusals.proofs.Ranges.{fault-pair, fault-zero, fault-short, fault-none}
-use borrow.Author.Rules.{rules}
 use Rattle.refusals.proofs.removal_fault.Goals as goal
 use Rattle.refusals.proofs.removal_fault.Goals.{Start}
 

@@ -1,7 +1,5 @@
 -- `refusals::text_fault` meets its contract. Assumes nothing.
 use mathlib.Core.Path.{sym, ◌∙◌}
-use borrow.Author.Tests.{not-false}
-use borrow.Author.Rules.{rules}
 use Rattle.refusals.proofs.text_fault.Goals as goal
 
 pub returns : goal.returns

@@ -1,6 +1,5 @@
 -- `soundness::content_ok` meets its contract. Assumes nothing.
 use mathlib.Core.Path.{sym, ap, ◌∙◌}
-use borrow.Author.Rules.{rules}
 use Rattle.layout.specs.Memory.{what_ok}
 use Rattle.soundness.proofs.Payloads.{as-text, as-embed, mark-ok}
 use Rattle.soundness.proofs.content_ok.Goals as goal

@@ -5,7 +5,6 @@ use native.Mathlib.Nat.{add-sub_cancel_left}
 use mathlib.Core.Path.{sym, ◌∙◌}
 use Rattle.units.proofs.Plain.{plain-piece}
 use Rattle.layout.proofs.Soundness.{piece-empty, piece-out, piece_in}
-use borrow.Author.Rules.{rules}
 use Rattle.soundness.proofs.piece_ok.Goals as goal
 
 pub returns-then-len-eq0 : goal.returns-then-len-eq0

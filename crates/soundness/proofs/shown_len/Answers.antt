@@ -1,6 +1,5 @@
 -- `soundness::shown_len` meets its contract. Assumes nothing.
 use mathlib.Core.Path.{sym, ap, ◌∙◌}
-use borrow.Author.Rules.{rules}
 use Rattle.rules.specs.Sheet.{width}
 use Rattle.soundness.proofs.Payloads.{as-embed, no-embed}
 use Rattle.soundness.proofs.shown_len.Goals as goal

@@ -1,5 +1,4 @@
 -- `soundness::sound` meets its contract. Assumes nothing.
-use borrow.Author.Rules.{rules}
 use Rattle.soundness.proofs.Measures.{sound-is}
 use Rattle.soundness.proofs.sound.Goals as goal
 

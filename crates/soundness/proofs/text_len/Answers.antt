@@ -1,6 +1,5 @@
 -- `soundness::text_len` meets its contract. Assumes nothing.
 use mathlib.Core.Path.{sym, ap}
-use borrow.Author.Rules.{rules}
 use Rattle.layout.specs.Memory.{len_of}
 use Rattle.soundness.proofs.Payloads.{as-text, no_text}
 use Rattle.soundness.proofs.text_len.Goals as goal

@@ -3,8 +3,7 @@
 use Prim.Native.Nat.{◌≤◌, ◌+◌, ◌-◌}
 use native.Mathlib.Omega.{arith}
 use mathlib.Core.Path.{◌≡◌, refl, sym, ◌∙◌}
-use borrow.Author.Rules.{rules}
-use borrow.Author.Tests.{not-true, not-false, ne_eqb, eq-eqb}
+use borrow.Author.Tests.{ne_eqb, eq-eqb}
 use lib.ListN.{get_or}
 use lib.Dec.{eqb}
 use mathlib.Core.Bool.{true}

@@ -1,18 +1,8 @@
 use Prim.Native.Nat.{◌≤◌, ◌+◌, ◌-◌}
-use native.Mathlib.Omega.{arith}
-use mathlib.Core.Path.{◌≡◌, refl, sym, ◌∙◌}
-use borrow.Author.Rules.{rules}
-use borrow.Author.Tests.{not-true, not-false, ne_eqb, eq-eqb}
-use lib.ListN.{get_or}
-use lib.Dec.{eqb}
-use mathlib.Core.Bool.{true}
-use Rattle.units.proofs.Halves.{and_no-left}
+use mathlib.Core.Path.{◌≡◌}
 use Rattle.rules.specs.Reading.{visible}
-use Rattle.layout.specs.Chain.{END, item_at, next_at, chain}
-use Rattle.layout.specs.Memory.{len_of, word_ok, sound_of}
-use Rattle.layout.proofs.Soundness.{rest_ok, sound-rest, rest_out, rest-bad, rest_over, rest-step, rest_end, word-parts, ok-len}
-use Rattle.layout.proofs.Lengths.{visible-step, visible-end, shown-le}
-use Rattle.soundness.proofs.Measures.{measured-broken, measured-sound}
+use Rattle.layout.specs.Chain.{chain}
+use Rattle.layout.proofs.Soundness.{rest_ok}
 use Rattle.soundness.proofs.walk.Given as goal
 
 abbrev pub invariant-loop-k : goal.invariant-loop-k

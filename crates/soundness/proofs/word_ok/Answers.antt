@@ -1,8 +1,6 @@
 -- `soundness::word_ok` meets its contract. Assumes nothing.
 use mathlib.Core.Path.{sym, ◌∙◌}
-use borrow.Author.Tests.{not-true, not-false}
 use Rattle.layout.proofs.Soundness.{word-off, word-false, word_on}
-use borrow.Author.Rules.{rules}
 use Rattle.soundness.proofs.word_ok.Goals as goal
 
 pub returns-then-not-in_range : goal.returns-then-not-in_range

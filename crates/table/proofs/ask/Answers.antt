@@ -1,8 +1,6 @@
 -- `table::ask` meets its contract. Assumes nothing.
 use native.Mathlib.Omega.{arith}
 use mathlib.Core.Path.{refl, sym, ◌∙◌}
-use borrow.Author.Tests.{not-true, not-false}
-use borrow.Author.Rules.{rules}
 use Rattle.table.specs.Ask.{ask_of, outcome}
 use Rattle.table.proofs.Tables.{sound-parts, shelf-room}
 use Rattle.table.proofs.Asks.{ask_case, known_facts, fresh-facts}

@@ -1,5 +1,4 @@
 -- `table::ask_bool` meets its contract. Assumes nothing.
-use borrow.Author.Rules.{rules}
 use Rattle.table.specs.Value.{kind_of, content_of}
 use Rattle.entries.proofs.Bits.{bool-byte}
 use Rattle.table.proofs.ask_bool.Goals as goal

@@ -3,7 +3,6 @@ use mathlib.Core.Path.{ap, ◌∙◌}
 use mir.Syntax.{w64}
 use mir.Val.{of_z}
 use mir.Facts.{to_z-of_z}
-use borrow.Author.Rules.{rules}
 use Rattle.table.specs.Value.{kind_of, content_of}
 use Rattle.table.proofs.ask_int.Goals as goal
 

@@ -1,5 +1,4 @@
 -- `table::ask_string` meets its contract. Assumes nothing.
-use borrow.Author.Rules.{rules}
 use Rattle.table.specs.Value.{kind_of, content_of}
 use Rattle.table.proofs.ask_string.Goals as goal
 

@@ -1,6 +1,5 @@
 -- `table::decide` meets its contract. Assumes nothing.
 use mathlib.Core.Path.{sym, ◌∙◌}
-use borrow.Author.Rules.{rules}
 use Rattle.table.proofs.Asks.{is-long, is_known, is-fresh, is-full}
 use Rattle.table.proofs.decide.Goals as goal
 

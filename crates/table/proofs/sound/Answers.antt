@@ -1,7 +1,6 @@
 -- `table::sound` meets its contract. Assumes nothing.
 use mathlib.Core.Path.{sym, ◌∙◌}
-use borrow.Author.Tests.{eq-eqb, ne_eqb, not-true, not-false}
-use borrow.Author.Rules.{rules}
+use borrow.Author.Tests.{eq-eqb, ne_eqb}
 use Rattle.table.specs.Sound.{sound_of}
 use Rattle.table.proofs.sound.Goals as goal
 

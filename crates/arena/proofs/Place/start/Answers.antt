@@ -1,5 +1,4 @@
 -- `arena::Place::start` meets its contract. Assumes nothing.
-use borrow.Author.Rules.{rules}
 use Rattle.arena.proofs.Place.start.Goals as goal
 
 pub returns : goal.returns

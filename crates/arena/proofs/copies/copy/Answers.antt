@@ -1,11 +1,11 @@
 -- `arena::copies::copy` meets its contract. The invariant: the first i words are copied. Assumes nothing.
 use Rattle.arena.proofs.Copied.{copied-suc}
 use Rattle.arena.specs.Writes.{copied}
-use lib.ListN.{length, get_or, set, length-set}
+use lib.ListN.{get_or, set, length-set}
 use mathlib.Core.List.{List}
 use mathlib.Core.Path.{◌≡◌, refl, ap, ◌∙◌}
 use native.Mathlib.Omega.{arith}
-use Prim.Native.Nat.{ℕ, ◌≤◌, ◌-◌}
+use Prim.Native.Nat.{ℕ}
 use Rattle.arena.proofs.copies.copy.Goals as goal
 
 pub loop-i-init : goal.loop-i-init

@@ -1,10 +1,7 @@
-use Rattle.arena.proofs.Copied.{copied-suc}
 use Rattle.arena.specs.Writes.{copied}
-use lib.ListN.{length, get_or, set, length-set}
-use mathlib.Core.List.{List}
-use mathlib.Core.Path.{◌≡◌, refl, ap, ◌∙◌}
-use native.Mathlib.Omega.{arith}
-use Prim.Native.Nat.{ℕ, ◌≤◌, ◌-◌}
+use lib.ListN.{length}
+use mathlib.Core.Path.{◌≡◌}
+use Prim.Native.Nat.{◌≤◌, ◌-◌}
 use Rattle.arena.proofs.copies.copy.Given as goal
 
 abbrev pub invariant-loop-i : goal.invariant-loop-i

@@ -4,8 +4,7 @@ use Rattle.arena.proofs.Forces.{forward-told}
 use Rattle.arena.proofs.Steps.{start-stands, cut-more}
 use Rattle.arena.proofs.Standing.{right_lt}
 use Rattle.arena.proofs.Carried.{going_start}
-use Rattle.arena.specs.Places.{Going, placing, start_of}
-use borrow.Author.Rules.{rules}
+use Rattle.arena.specs.Places.{placing}
 use lib.ListN.{length}
 use mathlib.Core.Bool.{true, false}
 use mathlib.Core.Path.{sym, ◌∙◌}

@@ -1,7 +1,6 @@
 -- `arena::writes::cut` meets its contract: the two stores are those of `cut_mem`. Assumes nothing.
 use Rattle.arena.specs.Writes.{cut_mem}
 use mathlib.Core.Path.{refl}
-use borrow.Author.Rules.{rules}
 use Rattle.arena.proofs.writes.cut.Goals as goal
 
 pub right_half-b-requires : goal.right_half-b-requires

@@ -1,5 +1,4 @@
 -- `arena::writes::delete` meets its contract: the store is that of `kill_mem`. Assumes nothing.
-use borrow.Author.Rules.{rules}
 use Rattle.arena.proofs.writes.delete.Goals as goal
 
 pub returns : goal.returns

@@ -1,7 +1,6 @@
 -- `arena::writes::left_half` meets its contract. Assumes nothing.
 use Rattle.arena.specs.Writes.{left_text}
 use mathlib.Core.Path.{sym, ap}
-use borrow.Author.Rules.{rules}
 use Rattle.arena.proofs.writes.left_half.Goals as goal
 
 pub returns-in-Text : goal.returns-in-Text

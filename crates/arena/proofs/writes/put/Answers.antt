@@ -1,6 +1,5 @@
 -- `arena::writes::put` meets its contract. Assumes nothing.
 use Rattle.arena.proofs.Steps.{put-carried, put_asks}
-use borrow.Author.Rules.{rules}
 use Rattle.arena.proofs.writes.put.Goals as goal
 
 pub put_after-head-requires : goal.put_after-head-requires

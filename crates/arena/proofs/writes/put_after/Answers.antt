@@ -4,7 +4,6 @@ use borrow.Author.Tests.{ne_eqb}
 use lib.ListN.{length-set}
 use mathlib.Core.Path.{refl}
 use native.Mathlib.Omega.{arith}
-use borrow.Author.Rules.{rules}
 use Rattle.arena.proofs.writes.put_after.Goals as goal
 
 pub returns-then-left-eq-END : goal.returns-then-left-eq-END

@@ -2,7 +2,6 @@
 use Rattle.arena.specs.Writes.{right_text}
 use mathlib.Core.Path.{sym, ap}
 use native.Mathlib.Omega.{arith}
-use borrow.Author.Rules.{rules}
 use Rattle.arena.proofs.writes.right_half.Goals as goal
 
 pub overflow_add-result : goal.overflow_add-result

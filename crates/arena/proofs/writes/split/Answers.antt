@@ -1,6 +1,5 @@
 -- `arena::writes::split` meets its contract. Assumes nothing.
 use Rattle.arena.proofs.Steps.{split-carried, cut_asks}
-use borrow.Author.Rules.{rules}
 use Rattle.arena.proofs.writes.split.Goals as goal
 
 pub cut-head-requires : goal.cut-head-requires

@@ -1,5 +1,4 @@
 -- `assembling::assembler::add_op` meets its contract. Assumes nothing.
-use borrow.Author.Rules.{rules}
 use Rattle.assembling.proofs.assembler.add_op.Goals as goal
 
 pub returns-in-Inserting : goal.returns-in-Inserting

@@ -1,5 +1,4 @@
 -- `assembling::assembler::none` meets its contract. Assumes nothing.
-use borrow.Author.Rules.{rules}
 use Rattle.assembling.proofs.assembler.none.Goals as goal
 
 pub returns : goal.returns

@@ -1,5 +1,4 @@
 -- `assembling::assembler::pass` meets its contract. Assumes nothing.
-use borrow.Author.Rules.{rules}
 use Rattle.assembling.proofs.assembler.pass.Goals as goal
 
 pub pass_text-requires : goal.pass_text-requires

@@ -1,5 +1,4 @@
 -- `assembling::assembler::pass_embed` meets its contract. Assumes nothing.
-use borrow.Author.Rules.{rules}
 use borrow.Author.Tests.{not-true, not-false}
 use Rattle.assembling.proofs.assembler.pass_embed.Goals as goal
 

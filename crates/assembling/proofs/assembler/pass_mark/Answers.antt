@@ -1,5 +1,4 @@
 -- `assembling::assembler::pass_mark` meets its contract. Assumes nothing.
-use borrow.Author.Rules.{rules}
 use Rattle.assembling.proofs.assembler.pass_mark.Goals as goal
 
 pub returns : goal.returns

@@ -1,5 +1,4 @@
 -- `assembling::assembler::turned_by` meets its contract. Assumes nothing.
-use borrow.Author.Rules.{rules}
 use native.Mathlib.Omega.{arith}
 use Rattle.assembling.proofs.Pendings.{inserted-le}
 use Rattle.assembling.proofs.assembler.turned_by.Goals as goal

@@ -1,5 +1,4 @@
 -- `assembling::marks::changed` meets its contract. Assumes nothing.
-use borrow.Author.Rules.{rules}
 use Rattle.assembling.proofs.marks.changed.Goals as goal
 
 pub returns-in-Drops : goal.returns-in-Drops

@@ -1,5 +1,4 @@
 -- `assembling::marks::mark_turn` meets its contract. Assumes nothing.
-use borrow.Author.Rules.{rules}
 use mathlib.Core.Path.{sym, ◌∙◌}
 use Rattle.assembling.proofs.marks.mark_turn.Goals as goal
 

@@ -1,5 +1,4 @@
 -- `assembling::marks::past` meets its contract. Assumes nothing.
-use borrow.Author.Rules.{rules}
 use Rattle.assembling.proofs.marks.past.Goals as goal
 
 pub returns-then-seen : goal.returns-then-seen

@@ -1,5 +1,4 @@
 -- `assembling::marks::pending_added` meets its contract. Assumes nothing.
-use borrow.Author.Rules.{rules}
 use borrow.Author.Tests.{eq-eqb, ne_eqb}
 use Rattle.assembling.proofs.marks.pending_added.Goals as goal
 

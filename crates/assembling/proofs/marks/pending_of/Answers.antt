@@ -1,5 +1,4 @@
 -- `assembling::marks::pending_of` meets its contract. Assumes nothing.
-use borrow.Author.Rules.{rules}
 use borrow.Author.Tests.{eq-eqb, ne_eqb, not-true, not-false}
 use mathlib.Core.Path.{sym, ◌∙◌}
 use Rattle.attrs.specs.Packed.{env_of}

@@ -1,5 +1,4 @@
 -- `assembling::runs::grow` meets its contract. Assumes nothing.
-use borrow.Author.Rules.{rules}
 use Rattle.assembling.proofs.runs.grow.Goals as goal
 
 pub returns-then-s-2 : goal.returns-then-s-2

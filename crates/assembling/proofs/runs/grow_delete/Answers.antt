@@ -1,5 +1,4 @@
 -- `assembling::runs::grow_delete` meets its contract. Assumes nothing.
-use borrow.Author.Rules.{rules}
 use native.Mathlib.Omega.{arith}
 use Rattle.assembling.proofs.runs.grow_delete.Goals as goal
 

@@ -1,5 +1,4 @@
 -- `assembling::runs::seen_by` meets its contract. Assumes nothing.
-use borrow.Author.Rules.{rules}
 use Rattle.assembling.proofs.runs.seen_by.Goals as goal
 
 pub returns-then-back : goal.returns-then-back

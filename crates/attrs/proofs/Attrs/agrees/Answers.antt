@@ -1,7 +1,6 @@
 -- `attrs::Attrs::agrees` meets its contract.
 use mathlib.Core.Path.{sym, ap, ◌∙◌}
 use Prim.Native.Nat.{ℕ}
-use borrow.Author.Rules.{rules}
 use lib.Dec.{eqb}
 use Rattle.attrs.proofs.Slots.{agrees-there, agrees-not}
 use Rattle.attrs.proofs.Attrs.agrees.Goals as goal

@@ -4,11 +4,11 @@ use native.Mathlib.Omega.{arith}
 use borrow.Author.Rules.{rules}
 use lib.Count.{count_trailing_zeros}
 use Rattle.sets.specs.Sets.{is, empty}
-use Rattle.attrs.specs.Packed.{env_of, packed, says, changed}
+use Rattle.attrs.specs.Packed.{env_of}
 use Rattle.attrs.proofs.Says.{whole-packed, onto-packed}
 use Rattle.attrs.proofs.Slots.{Turn, turn}
 use Rattle.attrs.proofs.Changes.{changed-lacks, changed-keeps, changed-puts}
-use Rattle.attrs.proofs.Walk.{Walk, begins, ends, visit-put, visit-keep}
+use Rattle.attrs.proofs.Walk.{begins, ends, visit-put, visit-keep}
 use Rattle.attrs.proofs.Attrs.changed.Goals as goal
 use Rattle.attrs.proofs.Attrs.changed.Goals.{After-rest-left}
 

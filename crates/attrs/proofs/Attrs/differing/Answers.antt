@@ -1,6 +1,5 @@
 -- `attrs::Attrs::differing` meets its contract.
 use mathlib.Core.Path.{ap, ◌∙◌}
-use borrow.Author.Rules.{rules}
 use Rattle.attrs.specs.Packed.{packed}
 use Rattle.attrs.proofs.Changes.{changed-opened}
 use Rattle.attrs.proofs.Attrs.differing.Goals as goal

@@ -2,11 +2,10 @@
 use native.Mathlib.Omega.{arith}
 use borrow.Author.Rules.{rules}
 use lib.Count.{count_trailing_zeros}
-use Rattle.sets.specs.Sets.{completed}
-use Rattle.attrs.specs.Packed.{env_of, says}
+use Rattle.attrs.specs.Packed.{env_of}
 use Rattle.attrs.proofs.Slots.{env-clear, Turn, turn}
 use Rattle.attrs.proofs.Changes.{completed-none, completed-keeps, completed-puts}
-use Rattle.attrs.proofs.Walk.{Walk, begins, ends, visit-put, visit-keep}
+use Rattle.attrs.proofs.Walk.{begins, ends, visit-put, visit-keep}
 use Rattle.attrs.proofs.Attrs.unset_missing.Goals as goal
 use Rattle.attrs.proofs.Attrs.unset_missing.Goals.{After-rest-left}
 

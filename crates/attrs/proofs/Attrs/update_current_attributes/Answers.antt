@@ -2,7 +2,6 @@
 use mathlib.Core.Path.{◌≡◌, ◌∙◌}
 use native.Mathlib.Omega.{arith}
 use borrow.Author.Tests.{ne_eqb, lt-ltb, le-ltb}
-use borrow.Author.Rules.{rules}
 use Rattle.attrs.proofs.Attrs.update_current_attributes.Goals as goal
 
 pub returns-then-value-ne0 : goal.returns-then-value-ne0

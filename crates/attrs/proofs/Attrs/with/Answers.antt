@@ -2,7 +2,6 @@
 use Prim.Native.Nat.{◌<◌}
 use borrow.Author.Tests.{le-ltb, lt-ltb}
 use native.Mathlib.Omega.{arith}
-use borrow.Author.Rules.{rules}
 use Rattle.attrs.proofs.Attrs.with.Goals as goal
 
 pub returns-then-key-ge-KEYS : goal.returns-then-key-ge-KEYS

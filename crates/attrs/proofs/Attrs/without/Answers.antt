@@ -2,7 +2,6 @@
 use mathlib.Core.Path.{◌≡◌, sym, ◌∙◌}
 use Prim.Native.Nat.{◌<◌}
 use native.Mathlib.Omega.{arith}
-use borrow.Author.Tests.{not-true, not-false}
 use Rattle.sets.specs.Bits.{bit}
 use Rattle.sets.proofs.Bits.{bit_le}
 use Rattle.attrs.proofs.Stores.{put-gone, none-gone, there}

@@ -1,5 +1,4 @@
 -- `cursors::cursor::embed_run` meets its contract. Assumes nothing.
-use borrow.Author.Rules.{rules}
 use Rattle.cursors.proofs.cursor.embed_run.Goals as goal
 
 pub returns : goal.returns

@@ -1,6 +1,5 @@
 -- `cursors::cursor::ends` meets its contract. Assumes nothing.
 use Rattle.cursors.specs.Cursors.{ends_by}
-use borrow.Author.Rules.{rules}
 use Rattle.cursors.proofs.cursor.ends.Goals as goal
 
 pub returns-then-it : goal.returns-then-it

@@ -1,17 +1,11 @@
 -- `cursors::cursor::gather` meets its contract. Assumes nothing.
-use Prim.Native.Nat.{ℕ, ◌+◌, ◌≤◌}
-use mathlib.Core.Path.{◌≡◌, refl, sym, ap, ◌∙◌}
-use mathlib.Core.List.{List, ◌∷◌}
+use mathlib.Core.Path.{refl, sym, ap, ◌∙◌}
 use native.Mathlib.Omega.{arith}
-use lib.ListN.{length}
-use borrow.Author.Rules.{rules}
 use Rattle.attrs.specs.Packed.{env_of}
-use Rattle.rules.specs.Reading.{Glyph}
-use Rattle.rules.specs.Runs.{runs_from}
-use Rattle.cursors.specs.Records.{records_of, runs_by}
-use Rattle.cursors.specs.Cursors.{rest, Stands}
+use Rattle.cursors.specs.Records.{records_of}
+use Rattle.cursors.specs.Cursors.{rest}
 use Rattle.cursors.proofs.Spots.{Stepped, steps}
-use Rattle.cursors.proofs.Opens.{Open, opened-start, open_out, open-stop, open_turn}
+use Rattle.cursors.proofs.Opens.{opened-start, open_out, open-stop, open_turn}
 use Rattle.cursors.proofs.cursor.gather.Goals as goal
 use Rattle.cursors.proofs.cursor.gather.Goals.{In-loop-s}
 

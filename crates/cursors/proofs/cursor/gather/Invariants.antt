@@ -1,16 +1,13 @@
 use Prim.Native.Nat.{ℕ, ◌+◌, ◌≤◌}
-use mathlib.Core.Path.{◌≡◌, refl, sym, ap, ◌∙◌}
+use mathlib.Core.Path.{◌≡◌}
 use mathlib.Core.List.{List, ◌∷◌}
-use native.Mathlib.Omega.{arith}
 use lib.ListN.{length}
-use borrow.Author.Rules.{rules}
 use Rattle.attrs.specs.Packed.{env_of}
 use Rattle.rules.specs.Reading.{Glyph}
 use Rattle.rules.specs.Runs.{runs_from}
 use Rattle.cursors.specs.Records.{records_of, runs_by}
 use Rattle.cursors.specs.Cursors.{rest, Stands}
-use Rattle.cursors.proofs.Spots.{Stepped, steps}
-use Rattle.cursors.proofs.Opens.{Open, opened-start, open_out, open-stop, open_turn}
+use Rattle.cursors.proofs.Opens.{Open}
 use Rattle.cursors.proofs.cursor.gather.Given as goal
 
 abbrev pub invariant-loop-s : goal.invariant-loop-s

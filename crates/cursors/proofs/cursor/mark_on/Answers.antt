@@ -1,6 +1,5 @@
 -- `cursors::cursor::mark_on` meets its contract. Assumes nothing.
 use Rattle.cursors.specs.Cursors.{mark_on}
-use borrow.Author.Rules.{rules}
 use Rattle.cursors.proofs.cursor.mark_on.Goals as goal
 
 pub returns-in-Text : goal.returns-in-Text

@@ -5,7 +5,6 @@ use mathlib.Core.Path.{ap}
 use Rattle.layout.specs.Word.{what_of}
 use Rattle.cursors.specs.declared.cursor.Spot.{Spot}
 use Rattle.cursors.proofs.Spots.{Stepped, steps, next-none, next-embed, next-text}
-use borrow.Author.Rules.{rules}
 use Rattle.cursors.proofs.cursor.next_run.Goals as goal
 use Rattle.cursors.proofs.cursor.next_run.Goals.{Else-s-eq0}
 

@@ -1,6 +1,5 @@
 -- `cursors::cursor::passes` meets its contract. Assumes nothing.
 use Rattle.cursors.specs.Cursors.{passes_of}
-use borrow.Author.Rules.{rules}
 use Rattle.cursors.proofs.cursor.passes.Goals as goal
 
 pub returns-then-it : goal.returns-then-it

@@ -1,6 +1,5 @@
 -- `cursors::cursor::past` meets its contract. Assumes nothing.
 use Rattle.cursors.proofs.Forces.{mark-told}
-use borrow.Author.Rules.{rules}
 use mathlib.Core.Bool.{true, false}
 use Rattle.layout.specs.Word.{what_of}
 use Rattle.cursors.proofs.cursor.past.Goals as goal

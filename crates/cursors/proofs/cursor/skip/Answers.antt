@@ -1,11 +1,6 @@
 -- `cursors::cursor::skip` meets its contract. Assumes nothing.
-use Prim.Native.Nat.{◌≤◌}
-use mathlib.Core.Path.{◌≡◌, refl, sym, ◌∙◌}
-use mathlib.Core.Bool.{Bool}
+use mathlib.Core.Path.{refl, sym, ◌∙◌}
 use native.Mathlib.Omega.{arith}
-use borrow.Author.Rules.{rules}
-use borrow.Author.Tests.{not-true, not-false}
-use Rattle.cursors.specs.Cursors.{records_at, Stands}
 use Rattle.cursors.proofs.Spots.{Stepped, steps, skip_turn}
 use Rattle.cursors.proofs.cursor.skip.Goals as goal
 use Rattle.cursors.proofs.cursor.skip.Goals.{In-loop-s}

@@ -1,11 +1,7 @@
 use Prim.Native.Nat.{◌≤◌}
-use mathlib.Core.Path.{◌≡◌, refl, sym, ◌∙◌}
+use mathlib.Core.Path.{◌≡◌}
 use mathlib.Core.Bool.{Bool}
-use native.Mathlib.Omega.{arith}
-use borrow.Author.Rules.{rules}
-use borrow.Author.Tests.{not-true, not-false}
 use Rattle.cursors.specs.Cursors.{records_at, Stands}
-use Rattle.cursors.proofs.Spots.{Stepped, steps, skip_turn}
 use Rattle.cursors.proofs.cursor.skip.Given as goal
 
 abbrev pub invariant-loop-s : goal.invariant-loop-s

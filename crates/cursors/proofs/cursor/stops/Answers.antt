@@ -1,6 +1,5 @@
 -- `cursors::cursor::stops` meets its contract. Assumes nothing.
 use Rattle.cursors.specs.Cursors.{stops_at}
-use borrow.Author.Rules.{rules}
 use Rattle.cursors.proofs.cursor.stops.Goals as goal
 
 pub returns-in-Text : goal.returns-in-Text

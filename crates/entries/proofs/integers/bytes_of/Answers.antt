@@ -1,6 +1,5 @@
 -- `entries::integers::bytes_of` meets its contract. Assumes nothing.
 use mathlib.Core.Path.{refl}
-use borrow.Author.Rules.{rules}
 use Rattle.entries.specs.Number.{low_bytes}
 use Rattle.entries.proofs.integers.bytes_of.Goals as goal
 

@@ -1,5 +1,4 @@
 -- `entries::integers::integer_of` meets its contract. Assumes nothing.
-use borrow.Author.Rules.{rules}
 use Rattle.entries.proofs.Bits.{high-sfits, high-kept}
 use Rattle.entries.proofs.integers.integer_of.Goals as goal
 

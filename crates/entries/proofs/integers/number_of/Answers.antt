@@ -1,8 +1,7 @@
 -- `entries::integers::number_of` meets its contract. The invariant: `n` is the number of the bytes from `i` on. Assumes nothing.
-use Prim.Native.Nat.{◌≤◌, ◌-◌}
+use Prim.Native.Nat.{◌-◌}
 use native.Mathlib.Omega.{arith}
 use mathlib.Core.Path.{ap, ◌≡◌, sym}
-use lib.ListN.{length, drop}
 use lib.Seq.{drop-length}
 use Rattle.entries.specs.Number.{number_of}
 use Rattle.entries.proofs.Bits.{rest_below, number_step}

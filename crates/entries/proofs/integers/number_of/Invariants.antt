@@ -1,10 +1,7 @@
-use Prim.Native.Nat.{◌≤◌, ◌-◌}
-use native.Mathlib.Omega.{arith}
-use mathlib.Core.Path.{ap, ◌≡◌, sym}
+use Prim.Native.Nat.{◌≤◌}
+use mathlib.Core.Path.{◌≡◌}
 use lib.ListN.{length, drop}
-use lib.Seq.{drop-length}
 use Rattle.entries.specs.Number.{number_of}
-use Rattle.entries.proofs.Bits.{rest_below, number_step}
 use Rattle.entries.proofs.integers.number_of.Given as goal
 
 abbrev pub invariant-loop-i : goal.invariant-loop-i

@@ -1,6 +1,5 @@
 -- `entries::slots::content` meets its contract. Assumes nothing.
 use native.Mathlib.Nat.{add-sub_cancel_left}
-use borrow.Author.Rules.{rules}
 use Rattle.entries.specs.Entry.{content_at}
 use Rattle.entries.proofs.slots.content.Goals as goal
 

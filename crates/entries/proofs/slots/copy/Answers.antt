@@ -1,10 +1,8 @@
 -- `entries::slots::copy` meets its contract. The invariant: what is left to copy, copied from here, makes what the whole copy makes. Assumes nothing.
-use Prim.Native.Nat.{◌≤◌, ◌-◌, ◌+◌}
 use native.Mathlib.Nat.{add-zero}
 use native.Mathlib.Omega.{arith}
-use mathlib.Core.Path.{◌≡◌, refl, sym, ◌∙◌}
-use lib.Seq.{sets}
-use lib.ListN.{length-set, drop_of_length-le, length, drop}
+use mathlib.Core.Path.{refl, sym, ◌∙◌}
+use lib.ListN.{length-set, drop_of_length-le}
 use Rattle.entries.proofs.Entries.{copy_step}
 use Rattle.entries.proofs.slots.copy.Goals as goal
 

@@ -1,10 +1,7 @@
 use Prim.Native.Nat.{◌≤◌, ◌-◌, ◌+◌}
-use native.Mathlib.Nat.{add-zero}
-use native.Mathlib.Omega.{arith}
-use mathlib.Core.Path.{◌≡◌, refl, sym, ◌∙◌}
+use mathlib.Core.Path.{◌≡◌}
 use lib.Seq.{sets}
-use lib.ListN.{length-set, drop_of_length-le, length, drop}
-use Rattle.entries.proofs.Entries.{copy_step}
+use lib.ListN.{length, drop}
 use Rattle.entries.proofs.slots.copy.Given as goal
 
 abbrev pub invariant-loop-i : goal.invariant-loop-i

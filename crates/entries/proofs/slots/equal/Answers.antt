@@ -1,9 +1,6 @@
 -- `entries::slots::equal` meets its contract. The invariant: the contents from `i` on are equal exactly where the whole contents are. Assumes nothing.
-use Prim.Native.Nat.{◌≤◌, ◌-◌}
 use native.Mathlib.Omega.{arith}
-use mathlib.Core.Path.{◌≡◌, refl, sym, ◌∙◌}
-use lib.ListN.{length, drop}
-use Rattle.entries.specs.Entry.{same_bytes}
+use mathlib.Core.Path.{refl, sym, ◌∙◌}
 use Rattle.entries.proofs.Entries.{same_step, same_differs, same-short, same_end}
 use Rattle.entries.proofs.slots.equal.Goals as goal
 

@@ -1,9 +1,7 @@
 use Prim.Native.Nat.{◌≤◌, ◌-◌}
-use native.Mathlib.Omega.{arith}
-use mathlib.Core.Path.{◌≡◌, refl, sym, ◌∙◌}
+use mathlib.Core.Path.{◌≡◌}
 use lib.ListN.{length, drop}
 use Rattle.entries.specs.Entry.{same_bytes}
-use Rattle.entries.proofs.Entries.{same_step, same_differs, same-short, same_end}
 use Rattle.entries.proofs.slots.equal.Given as goal
 
 abbrev pub invariant-loop-i : goal.invariant-loop-i

@@ -1,10 +1,8 @@
 -- `entries::slots::find` meets its contract. The invariant: the place in the slots that are left, with those that are passed, is the place in all. Assumes nothing.
-use Prim.Native.Nat.{◌≤◌, ◌-◌, ◌+◌}
 use native.Mathlib.Nat.{zero-add}
 use native.Mathlib.Omega.{arith}
-use mathlib.Core.Path.{◌≡◌, sym, ◌∙◌}
-use mathlib.Core.List.{◌∷◌}
-use Rattle.entries.specs.Entry.{entries, seek}
+use mathlib.Core.Path.{sym, ◌∙◌}
+use Rattle.entries.specs.Entry.{seek}
 use Rattle.entries.proofs.Entries.{rest-start, rest_end, seek_hit, seek-miss}
 use Rattle.entries.proofs.slots.find.Goals as goal
 

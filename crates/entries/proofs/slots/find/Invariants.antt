@@ -1,10 +1,7 @@
 use Prim.Native.Nat.{◌≤◌, ◌-◌, ◌+◌}
-use native.Mathlib.Nat.{zero-add}
-use native.Mathlib.Omega.{arith}
-use mathlib.Core.Path.{◌≡◌, sym, ◌∙◌}
+use mathlib.Core.Path.{◌≡◌}
 use mathlib.Core.List.{◌∷◌}
 use Rattle.entries.specs.Entry.{entries, seek}
-use Rattle.entries.proofs.Entries.{rest-start, rest_end, seek_hit, seek-miss}
 use Rattle.entries.proofs.slots.find.Given as goal
 
 abbrev pub invariant-loop-i : goal.invariant-loop-i

@@ -3,7 +3,6 @@ use native.Mathlib.Omega.{arith}
 use mathlib.Core.Path.{◌∙◌, ap}
 use lib.Seq.{length-sets}
 use lib.ListN.{length, length-set}
-use borrow.Author.Rules.{rules}
 use Rattle.entries.proofs.Entries.{put_is}
 use Rattle.entries.proofs.slots.put.Goals as goal
 

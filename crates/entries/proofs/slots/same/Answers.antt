@@ -1,6 +1,5 @@
 -- `entries::slots::same` meets its contract. Assumes nothing.
 use borrow.Author.Tests.{eq-eqb, ne_eqb}
-use borrow.Author.Rules.{rules}
 use Rattle.entries.specs.Entry.{entry_at, same_bytes}
 use Rattle.entries.proofs.slots.same.Goals as goal
 

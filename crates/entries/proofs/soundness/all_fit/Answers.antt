@@ -1,9 +1,6 @@
 -- `entries::soundness::all_fit` meets its contract. The invariant: the slots that are left are in order exactly where all are. Assumes nothing.
-use Prim.Native.Nat.{◌≤◌, ◌-◌, ◌+◌}
 use native.Mathlib.Omega.{arith}
-use mathlib.Core.Path.{◌≡◌, sym, ◌∙◌}
-use borrow.Author.Tests.{not-true, not-false}
-use Rattle.entries.specs.Order.{all_fit}
+use mathlib.Core.Path.{sym, ◌∙◌}
 use Rattle.entries.proofs.Entries.{fit-start, fit-step, fit-fails, fit-end}
 use Rattle.entries.proofs.soundness.all_fit.Goals as goal
 

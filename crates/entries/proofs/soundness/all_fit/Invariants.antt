@@ -1,9 +1,6 @@
 use Prim.Native.Nat.{◌≤◌, ◌-◌, ◌+◌}
-use native.Mathlib.Omega.{arith}
-use mathlib.Core.Path.{◌≡◌, sym, ◌∙◌}
-use borrow.Author.Tests.{not-true, not-false}
+use mathlib.Core.Path.{◌≡◌}
 use Rattle.entries.specs.Order.{all_fit}
-use Rattle.entries.proofs.Entries.{fit-start, fit-step, fit-fails, fit-end}
 use Rattle.entries.proofs.soundness.all_fit.Given as goal
 
 abbrev pub invariant-loop-i : goal.invariant-loop-i

@@ -1,8 +1,6 @@
 -- `entries::soundness::distinct` meets its contract. The invariant: the slots that are left are distinct exactly where all are. Assumes nothing.
-use Prim.Native.Nat.{◌≤◌, ◌-◌, ◌+◌}
 use native.Mathlib.Omega.{arith}
-use mathlib.Core.Path.{◌≡◌, sym, ◌∙◌}
-use Rattle.entries.specs.Entry.{entries}
+use mathlib.Core.Path.{sym, ◌∙◌}
 use Rattle.entries.specs.Order.{distinct}
 use Rattle.entries.proofs.Entries.{rest-start, rest_end, distinct-step}
 use Rattle.entries.proofs.soundness.distinct.Goals as goal

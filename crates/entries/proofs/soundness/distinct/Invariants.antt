@@ -1,9 +1,7 @@
 use Prim.Native.Nat.{◌≤◌, ◌-◌, ◌+◌}
-use native.Mathlib.Omega.{arith}
-use mathlib.Core.Path.{◌≡◌, sym, ◌∙◌}
+use mathlib.Core.Path.{◌≡◌}
 use Rattle.entries.specs.Entry.{entries}
 use Rattle.entries.specs.Order.{distinct}
-use Rattle.entries.proofs.Entries.{rest-start, rest_end, distinct-step}
 use Rattle.entries.proofs.soundness.distinct.Given as goal
 
 abbrev pub invariant-loop-i : goal.invariant-loop-i

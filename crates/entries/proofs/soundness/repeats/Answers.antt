@@ -1,5 +1,4 @@
 -- `entries::soundness::repeats` meets its contract. Assumes nothing.
-use borrow.Author.Rules.{rules}
 use Rattle.entries.specs.Entry.{entry_at, among}
 use Rattle.entries.proofs.Entries.{length-entries}
 use Rattle.entries.proofs.soundness.repeats.Goals as goal

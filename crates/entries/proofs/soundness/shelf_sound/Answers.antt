@@ -1,7 +1,6 @@
 -- `entries::soundness::shelf_sound` meets its contract. Assumes nothing.
 use mathlib.Core.Path.{sym, ◌∙◌}
-use borrow.Author.Tests.{le-leb, lt-leb, not-true, not-false}
-use borrow.Author.Rules.{rules}
+use borrow.Author.Tests.{le-leb, lt-leb}
 use Rattle.entries.specs.Order.{shelf_sound}
 use Rattle.entries.proofs.soundness.shelf_sound.Goals as goal
 

@@ -1,6 +1,5 @@
 -- `entries::soundness::slot_fits` meets its contract. Assumes nothing.
 use borrow.Author.Tests.{eq-eqb, ne_eqb, lt-ltb, le-ltb}
-use borrow.Author.Rules.{rules}
 use Rattle.entries.specs.Order.{fits_at}
 use Rattle.entries.proofs.soundness.slot_fits.Goals as goal
 

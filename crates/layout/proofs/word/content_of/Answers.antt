@@ -1,6 +1,5 @@
 -- `layout::word::content_of` meets its contract: each `return` rewrites with the tests that led there. Assumes nothing.
 use borrow.Author.Tests.{ne_eqb}
-use borrow.Author.Rules.{rules}
 use Rattle.layout.proofs.word.content_of.Goals as goal
 
 pub returns-then-k-eq0 : goal.returns-then-k-eq0

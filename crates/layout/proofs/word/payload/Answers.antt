@@ -2,7 +2,6 @@
 use mathlib.Core.Path.{sym, ap}
 use native.Mathlib.Omega.{arith}
 use Rattle.layout.specs.Word.{payload_of}
-use borrow.Author.Rules.{rules}
 use Rattle.layout.proofs.word.payload.Goals as goal
 
 pub returns-in-Text : goal.returns-in-Text

@@ -1,5 +1,4 @@
 -- `layout::word::unpack` meets its contract. Assumes nothing.
-use borrow.Author.Rules.{rules}
 use Rattle.layout.proofs.word.unpack.Goals as goal
 
 pub content_of-content-requires : goal.content_of-content-requires

@@ -1,4 +1,3 @@
-use borrow.Author.Rules.{rules}
 use mathlib.Core.Path.{refl}
 use Rattle.lines.proofs.Asking.{ended_is}
 use Rattle.lines.proofs.asks.ended.Goals as goal

@@ -1,4 +1,3 @@
-use borrow.Author.Rules.{rules}
 use borrow.Author.Tests.{ne_eqb}
 use mathlib.Core.Path.{◌∙◌}
 use Rattle.lines.proofs.asks.named_entry.Goals as goal

@@ -1,4 +1,3 @@
-use borrow.Author.Rules.{rules}
 use Rattle.lines.proofs.Asking.{entry-is}
 use Rattle.lines.proofs.asks.read_entry.Goals as goal
 

@@ -1,5 +1,4 @@
 use borrow.Author.Tests.{ne_eqb}
-use borrow.Author.Rules.{rules}
 use mathlib.Core.Path.{◌∙◌}
 use Rattle.lines.specs.Calls.{kind_of}
 use Rattle.lines.proofs.calls.kind_of.Goals as goal

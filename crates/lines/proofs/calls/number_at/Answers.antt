@@ -1,4 +1,3 @@
-use borrow.Author.Rules.{rules}
 use Rattle.lines.proofs.Calling.{number_is}
 use Rattle.lines.proofs.calls.number_at.Goals as goal
 

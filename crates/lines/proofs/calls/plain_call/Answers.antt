@@ -1,4 +1,3 @@
-use borrow.Author.Rules.{rules}
 use mathlib.Core.Path.{ap, ◌∙◌}
 use Rattle.lines.specs.Calls.{bare_asked}
 use Rattle.lines.proofs.Calling.{plain-is}

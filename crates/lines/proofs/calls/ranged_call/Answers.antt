@@ -1,4 +1,3 @@
-use borrow.Author.Rules.{rules}
 use Rattle.lines.proofs.Calling.{ranged-none, ranged-half, ranged-some, starts-within}
 use Rattle.lines.proofs.calls.ranged_call.Goals as goal
 

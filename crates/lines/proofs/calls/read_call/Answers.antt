@@ -1,4 +1,3 @@
-use borrow.Author.Rules.{rules}
 use mathlib.Core.Path.{refl}
 use native.Mathlib.Omega.{arith}
 use Rattle.lines.proofs.Calling.{call-silent, empty-silent, comment-silent, not-silent, call_by, plain-count, bare-count}

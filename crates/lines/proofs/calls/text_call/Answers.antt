@@ -1,4 +1,3 @@
-use borrow.Author.Rules.{rules}
 use Rattle.lines.proofs.Calling.{text-none, text-some, starts-within}
 use Rattle.lines.proofs.calls.text_call.Goals as goal
 

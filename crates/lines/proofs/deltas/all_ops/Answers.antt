@@ -1,4 +1,4 @@
-use Rattle.lines.proofs.Operations.{Ordering, ordering-start, ordering-stop, ordering-done, ordering-step}
+use Rattle.lines.proofs.Operations.{ordering-start, ordering-stop, ordering-done, ordering-step}
 use native.Mathlib.Omega.{arith}
 use Rattle.lines.proofs.deltas.all_ops.Goals as goal
 

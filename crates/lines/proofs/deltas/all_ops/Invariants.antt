@@ -1,5 +1,4 @@
-use Rattle.lines.proofs.Operations.{Ordering, ordering-start, ordering-stop, ordering-done, ordering-step}
-use native.Mathlib.Omega.{arith}
+use Rattle.lines.proofs.Operations.{Ordering}
 use Rattle.lines.proofs.deltas.all_ops.Given as goal
 
 abbrev pub invariant-loop-left : goal.invariant-loop-left

@@ -1,4 +1,3 @@
-use borrow.Author.Rules.{rules}
 use Rattle.lines.proofs.Operations.{numbered-none, numbered-some}
 use Rattle.lines.proofs.Calling.{starts-within}
 use Rattle.lines.proofs.deltas.numbered_op.Goals as goal

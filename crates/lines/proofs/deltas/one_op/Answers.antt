@@ -1,4 +1,3 @@
-use borrow.Author.Rules.{rules}
 use Rattle.lines.proofs.Operations.{op-by, numbered-read, stopped-read}
 use Rattle.lines.proofs.deltas.one_op.Goals as goal
 

@@ -1,4 +1,3 @@
-use borrow.Author.Rules.{rules}
 use Rattle.lines.proofs.Operations.{ops-by, ops-start, stopped-from, ops-all}
 use Rattle.lines.proofs.deltas.ops_from.Goals as goal
 

@@ -1,4 +1,3 @@
-use borrow.Author.Rules.{rules}
 use Rattle.lines.proofs.Gathering.{or_some}
 use Rattle.lines.proofs.deltas.or_else.Goals as goal
 

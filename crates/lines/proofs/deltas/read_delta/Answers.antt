@@ -1,4 +1,3 @@
-use borrow.Author.Rules.{rules}
 use Rattle.lines.proofs.Operations.{delta-read}
 use Rattle.lines.proofs.deltas.read_delta.Goals as goal
 

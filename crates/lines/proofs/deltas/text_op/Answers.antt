@@ -1,4 +1,3 @@
-use borrow.Author.Rules.{rules}
 use Rattle.lines.proofs.Operations.{text_bounds, text-taken}
 use Rattle.lines.proofs.Calling.{starts-within}
 use native.Mathlib.Omega.{arith}

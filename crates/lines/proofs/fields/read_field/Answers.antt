@@ -1,4 +1,3 @@
-use borrow.Author.Rules.{rules}
 use Rattle.lines.proofs.Gathering.{field-line, field-op, field-word, read_is}
 use Rattle.lines.proofs.fields.read_field.Goals as goal
 

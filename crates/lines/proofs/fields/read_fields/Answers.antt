@@ -1,4 +1,4 @@
-use Rattle.lines.proofs.Gathering.{Gathering, gathering-start, gathering-stop, gathering-done, gathering-step}
+use Rattle.lines.proofs.Gathering.{gathering-start, gathering-stop, gathering-done, gathering-step}
 use native.Mathlib.Omega.{arith}
 use Rattle.lines.proofs.fields.read_fields.Goals as goal
 

@@ -1,5 +1,4 @@
-use Rattle.lines.proofs.Gathering.{Gathering, gathering-start, gathering-stop, gathering-done, gathering-step}
-use native.Mathlib.Omega.{arith}
+use Rattle.lines.proofs.Gathering.{Gathering}
 use Rattle.lines.proofs.fields.read_fields.Given as goal
 
 abbrev pub invariant-loop-left : goal.invariant-loop-left

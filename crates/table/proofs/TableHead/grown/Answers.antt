@@ -1,6 +1,5 @@
 -- `table::TableHead::grown` meets its contract. Assumes nothing.
 use borrow.Author.Tests.{eq-eqb, ne_eqb}
-use borrow.Author.Rules.{rules}
 use Rattle.table.specs.Ask.{grown_of}
 use Rattle.table.proofs.TableHead.grown.Goals as goal
 

@@ -1,4 +1,3 @@
-use borrow.Author.Rules.{rules}
 use native.Mathlib.Omega.{arith}
 use Rattle.words.proofs.Writing.{fewest_short, decimal-wrote}
 use Rattle.words.proofs.show.put_decimal.Goals as goal

@@ -1,5 +1,4 @@
 -- `assembling::assembler::Assembler::fresh` meets its contract. Assumes nothing.
-use borrow.Author.Rules.{rules}
 use Rattle.assembling.proofs.assembler.Assembler.fresh.Goals as goal
 
 pub returns : goal.returns

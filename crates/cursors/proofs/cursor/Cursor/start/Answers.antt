@@ -1,5 +1,4 @@
 -- `cursors::cursor::Cursor::start` meets its contract. Assumes nothing.
-use borrow.Author.Rules.{rules}
 use Rattle.cursors.proofs.cursor.Cursor.start.Goals as goal
 
 pub returns : goal.returns

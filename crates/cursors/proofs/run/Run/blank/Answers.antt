@@ -1,5 +1,4 @@
 -- `cursors::run::Run::blank` meets its contract. Assumes nothing.
-use borrow.Author.Rules.{rules}
 use Rattle.cursors.proofs.run.Run.blank.Goals as goal
 
 pub returns : goal.returns

@@ -1,4 +1,3 @@
-use borrow.Author.Rules.{rules}
 use Rattle.lines.proofs.deltas.AskedDelta.with_op.Goals as goal
 
 pub returns : goal.returns

@@ -1,4 +1,3 @@
-use borrow.Author.Rules.{rules}
 use Rattle.lines.proofs.fields.Fields.start.Goals as goal
 
 pub returns : goal.returns

@@ -1,4 +1,3 @@
-use borrow.Author.Rules.{rules}
 use mathlib.Core.Path.{refl, ap, ◌∙◌}
 use Rattle.lines.specs.declared.fields.Field.TheVariants.{Word}
 use Rattle.lines.proofs.Gathering.{takes}

@@ -1,4 +1,3 @@
-use borrow.Author.Rules.{rules}
 use mathlib.Core.Path.{◌∙◌}
 use Rattle.lines.proofs.Gathering.{pair-none, pair-refused, pair-taken}
 use Rattle.lines.proofs.fields.Fields.with_pair.Goals as goal

@@ -1,4 +1,3 @@
-use borrow.Author.Rules.{rules}
 use mathlib.Core.Path.{refl, sym, ◌∙◌}
 use lib.Seq.{set_out}
 use Rattle.lines.proofs.Gathering.{unit-full, unit-room}

@@ -1,5 +1,4 @@
 -- `ops::delta::Delta::empty` meets its contract. Assumes nothing.
-use borrow.Author.Rules.{rules}
 use Rattle.ops.specs.Ops.{empty_delta}
 use Rattle.ops.proofs.delta.Delta.empty.Goals as goal
 

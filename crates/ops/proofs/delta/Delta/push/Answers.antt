@@ -1,5 +1,4 @@
 -- `ops::delta::Delta::push` meets its contract. Assumes nothing.
-use borrow.Author.Rules.{rules}
 use borrow.Author.Tests.{lt-ltb, le-ltb}
 use Rattle.ops.specs.Ops.{pushed}
 use Prim.Native.Nat.{◌<◌}
