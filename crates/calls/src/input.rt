@@ -5,7 +5,7 @@ ghost use Rattle.calls.specs.Waits.{Waits};
 use crate::edit::run_line;
 use crate::say::say_no_call;
 use crate::state::State;
-use libc::STDIN_FILENO;
+use std::io::{Read, Stdin};
 use words::input::{Line, first_line, to_front};
 
 // The bytes from `start` up to `end` wait. `line` lines have begun; `long` while what comes is the rest of one that is too long.
@@ -59,22 +59,22 @@ fn whole(
     }
 }
 
-// Where the bytes end that wait, with one more part behind the first n; nothing comes at the end of the input.
-fn read_behind(buf: &mut [u8], n: usize) -> usize
+// Where the bytes end that wait, with one more part behind the first n; nothing comes at the end of the input, and where a read fails.
+fn read_behind(mut stdin: Stdin, buf: &mut [u8], n: usize) -> usize
     requires { n ≤ length buf.old }
     ensures { Waits buf.new n result }
 {
-    let got = libc::read(STDIN_FILENO, &mut buf[n..]);
-    let more = io::count(got, &buf[n..]);
+    let got = stdin.read(&mut buf[n..]);
+    let more = got.unwrap_or(0);
     n + more
 }
 
-fn refilled(p: Place, buf: &mut [u8], n: usize, line: u64, long: bool) -> Place
+fn refilled(stdin: Stdin, p: Place, buf: &mut [u8], n: usize, line: u64, long: bool) -> Place
     requires { n ≤ length buf.old }
     ensures { Waits buf.new result.start result.end }
 {
     let state = p.state;
-    let end = read_behind(buf, n);
+    let end = read_behind(stdin, buf, n);
     Place {
         start: 0,
         end,
@@ -86,25 +86,26 @@ fn refilled(p: Place, buf: &mut [u8], n: usize, line: u64, long: bool) -> Place
 }
 
 // No newline waits. A line that fills the buffer is no call, and what is left of it is passed over.
-fn part(p: Place, buf: &mut [u8]) -> Place
+fn part(stdin: Stdin, p: Place, buf: &mut [u8]) -> Place
     requires { Waits buf.old p.start p.end }
     ensures { Waits buf.new result.start result.end }
 {
     let start = p.start;
     let end = p.end;
     if p.long {
-        return refilled(p, buf, 0, p.line, true);
+        return refilled(stdin, p, buf, 0, p.line, true);
     }
     let n = to_front(buf, start, end);
     if n == buf.len() {
         let line = std::num::wrapping_add_u64(p.line, 1);
         say_no_call(line);
-        return refilled(p, buf, 0, line, true);
+        return refilled(stdin, p, buf, 0, line, true);
     }
-    refilled(p, buf, n, p.line, false)
+    refilled(stdin, p, buf, n, p.line, false)
 }
 
 fn step(
+    stdin: Stdin,
     p: Place,
     buf: &mut [u8],
     text: &mut [u16],
@@ -120,7 +121,7 @@ fn step(
     let found = first_line(buf, start, end);
     match found {
         Line::Whole(e) => whole(p, e, buf, text, items, units, table),
-        Line::Part => part(p, buf),
+        Line::Part => part(stdin, p, buf),
     }
 }
 
@@ -150,6 +151,7 @@ fn rest(
 
 // A proved loop ends, and nothing says that the input does: the turns are counted down from a number that no run uses up.
 pub fn all_lines(
+    stdin: Stdin,
     buf: &mut [u8],
     text: &mut [u16],
     items: &mut [u64],
@@ -169,7 +171,7 @@ pub fn all_lines(
         if !p.more {
             return rest(p, buf, text, items, units, table);
         }
-        p = step(p, buf, text, items, units, table);
+        p = step(stdin, p, buf, text, items, units, table);
         turns -= 1;
     }
     p.state

@@ -12,12 +12,19 @@ mod input; // lines from standard input
 
 use layout::head::Head;
 
-fn main() {
+fn main(rt: HostRuntime) {
     let mut items = [0u64; 2048];
     let mut units = [0u16; 16384];
     let mut text = [0u16; 32768];
     let mut table = [0u8; 9214];
     let mut buf = [0u8; 135168];
-    let end = input::all_lines(&mut buf, &mut text, &mut items, &mut units, &mut table);
+    let end = input::all_lines(
+        rt.stdin(),
+        &mut buf,
+        &mut text,
+        &mut items,
+        &mut units,
+        &mut table,
+    );
     answer::last(end.head, &items, &units);
 }

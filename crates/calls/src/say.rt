@@ -3,8 +3,10 @@ ghost use Rattle.std.specs.Prelude.{◌+◌, ◌≤◌, length};
 ghost use Rattle.io.specs.Counts.{IsPrefixLen};
 
 use attrs::Attrs;
-use libc::STDOUT_FILENO;
 use words::show::{put_attrs, put_unit};
+
+// The number that the system gives standard output.
+const STDOUT_FILENO: i32 = 1;
 
 pub fn say(text: &[u8]) {
     io::write_all(STDOUT_FILENO, text);

@@ -141,8 +141,8 @@ records-apart n (apart {r = r} {s = s} q m) = (
 
 by_apart : (b : Bool) → b ≡ true → (rs : List Stretch) → Maximal (joined rs) → Apart (records_of 0 (runs_by b rs))
 unfolding runs_by
-by_apart true e rs m = records-apart 0 m
-by_apart false e rs m = absurd (true≢false (sym e))
+by_apart true e r m = records-apart 0 m
+by_apart false e r m = absurd (true≢false (sym e))
 
 -- The runs of a sound sheet in memory.
 pub runs_listed : (s : State) → sound s ≡ true → (b : Bool) → Listed s b

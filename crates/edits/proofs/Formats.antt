@@ -77,7 +77,7 @@ cut_means a n r d w e = go (walks_over n r d w) refl d refl (key_in a w) (leb (w
     go true ex false ey false false el z = let long = leb-false (width w) n el in (some w (rw ey at ex) long, long)
 
 -- ---- the turns
-module _ {f : Move} {h : Head} {m : List ℕ} {p : Place} {a : Set} {n : ℕ} {r : Set} {h₁ : Head} {m₁ : List ℕ} {p₁ : Place} (o : Going f h m p (walking a n r) h₁ m₁ p₁) where
+module _ {f : Move} {h : Head} {m : List ℕ} {p : Place} (a : Set) {n : ℕ} {r : Set} {h₁ : Head} {m₁ : List ℕ} {p₁ : Place} (o : Going f h m p (walking a n r) h₁ m₁ p₁) where
   pub walked_end : p₁.todo ≤ 0 → Going f h m p (closing r) h₁ m₁ p₁
   walked_end z = going_end o z (closing r) (λ e k. refl)
 

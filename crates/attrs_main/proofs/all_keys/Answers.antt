@@ -1,7 +1,6 @@
 -- `attrs_main::all_keys` meets its contract: each check follows from the promises, by computing on the sets that they name.
 use mathlib.Core.Path.{◌≡◌, ap, ◌∙◌}
 use Prim.Native.Nat.{ℕ}
-use borrow.Author.Rules.{rules}
 use lib.Dec.{eqb}
 use lib.ListN.{length, replicate}
 use Rattle.attrs.specs.declared.Attrs.{Attrs}

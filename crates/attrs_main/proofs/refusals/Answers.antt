@@ -1,7 +1,6 @@
 -- `attrs_main::refusals` meets its contract: each check follows from the promises, by computing on the sets that they name.
 use mathlib.Core.Path.{◌≡◌, ap, ap₂, ◌∙◌}
 use Prim.Native.Nat.{ℕ}
-use borrow.Author.Rules.{rules}
 use lib.Dec.{eqb, lit≤}
 use Rattle.attrs.specs.declared.Attrs.{Attrs}
 use Rattle.attrs.specs.declared.Took.{Took}
@@ -22,24 +21,12 @@ pub expect-requires : goal.expect-requires
 unfolding look bit make mask_of values_of packed onto says keys
 expect-requires c = c.is_empty.ensures ∙ ap (λ (e : Attrs). bare keys (says e)) c.empty-e.ensures
 
-pub expect-requires-2 : goal.expect-requires-2
-expect-requires-2 c = ap (λ (t : Took). eqb t.refusal 0) c.with-last.ensures
-
 pub expect-requires-3 : goal.expect-requires-3
 unfolding look bit make mask_of values_of packed onto says env_of
 expect-requires-3 c = ap (λ (x : ℕ). eqb x 255) (c.get.ensures.is ∙ ap (λ (a : Attrs). env_of a 15) (a-is (goal.at.expect-requires-3 c).After-with-last))
 
 pub expect-requires-4 : goal.expect-requires-4
 expect-requires-4 c = ap (λ (x : ℕ). eqb x 0) (c.get-2.ensures.is ∙ env-past _ _ (lit≤ tt))
-
-pub expect-requires-5 : goal.expect-requires-5
-expect-requires-5 c = ap (λ (t : Took). eqb t.refusal 16) c.with-past.ensures
-
-pub expect-requires-6 : goal.expect-requires-6
-expect-requires-6 c = ap (λ (t : Took). eqb t.refusal 16) c.with-big.ensures
-
-pub expect-requires-7 : goal.expect-requires-7
-expect-requires-7 c = ap (λ (t : Took). eqb t.refusal 16) c.update_current_attributes-far.ensures
 
 pub expect-requires-8 : goal.expect-requires-8
 unfolding look bit make mask_of values_of packed onto says keys

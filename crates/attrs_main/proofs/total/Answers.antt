@@ -1,13 +1,12 @@
 -- `attrs_main::total` meets its contract: a walk over the keys, by `lowest` and `rest` of `attrs`.
-use mathlib.Core.Path.{◌≡◌, sym, ap, ◌∙◌}
-use Prim.Native.Nat.{◌+◌, ◌*◌, ◌≤◌}
+use mathlib.Core.Path.{sym, ap, ◌∙◌}
 use native.Mathlib.Omega.{arith}
 use borrow.Author.Rules.{rules}
 use lib.ListN.{length}
 use Rattle.sets.specs.Bits.{keys_of}
 use Rattle.attrs.specs.Packed.{env_of}
 use Rattle.sets.proofs.Keys.{keys_none, keys-le, first-nothing}
-use Rattle.attrs.proofs.Slots.{Part, part_all, Turn, turn-lowest, present-keys}
+use Rattle.attrs.proofs.Slots.{part_all, Turn, turn-lowest, present-keys}
 use Rattle.attrs_main.specs.Sum.{sum_of}
 use Rattle.attrs_main.proofs.total.Goals as goal
 use Rattle.attrs_main.proofs.total.Goals.{After-rest-left}
@@ -27,9 +26,6 @@ returns-in_default c =
     let e = env_of c.args.a in
     let z = first-nothing c.loop-k.left c.loop-k.invariant.0.fits (sym c.lowest-low.ensures ∙ c.in_default.is) in
     omega (arith, ap (sum_of e) (ap keys_of z ∙ keys_none), ap (sum_of e) (present-keys c.args.a))
-
-pub overflow_add-sum : goal.overflow_add-sum
-overflow_add-sum c = omega (arith, ap length (met (goal.at.overflow_add-sum c).After-rest-left).first)
 
 pub loop-k-smaller : goal.loop-k-smaller
 loop-k-smaller c = (met (goal.at.loop-k-smaller c).After-rest-left).less

@@ -1,12 +1,9 @@
-use mathlib.Core.Path.{◌≡◌, sym, ap, ◌∙◌}
+use mathlib.Core.Path.{◌≡◌}
 use Prim.Native.Nat.{◌+◌, ◌*◌, ◌≤◌}
-use native.Mathlib.Omega.{arith}
-use borrow.Author.Rules.{rules}
 use lib.ListN.{length}
 use Rattle.sets.specs.Bits.{keys_of}
 use Rattle.attrs.specs.Packed.{env_of}
-use Rattle.sets.proofs.Keys.{keys_none, keys-le, first-nothing}
-use Rattle.attrs.proofs.Slots.{Part, part_all, Turn, turn-lowest, present-keys}
+use Rattle.attrs.proofs.Slots.{Part}
 use Rattle.attrs_main.specs.Sum.{sum_of}
 use Rattle.attrs_main.proofs.total.Given as goal
 

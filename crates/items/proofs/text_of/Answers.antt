@@ -33,11 +33,10 @@ slice_bounds-result-end-in-Text c = omega (arith, text-room _ _ _ _ _ _ _ (sound
 
 pub returns-in-Text : goal.returns-in-Text
 returns-in-Text c =
-    let g = c.in-Text.given.0 in
-    text-part c.args.units.now g.0 g.1.0 ∙ sym (text-is _ _ _ _ _ _ (sound-here (goal.at.returns-in-Text c).Else-n-h) c.if-n-h.false c.unpack-it.ensures c.in-Text.is)
+    text-part c.args.units.now c.in-Text.start c.in-Text.len ∙ sym (text-is _ _ _ _ _ _ (sound-here (goal.at.returns-in-Text c).Else-n-h) c.if-n-h.false c.unpack-it.ensures c.in-Text.is)
 
 pub returns-in-Embed : goal.returns-in-Embed
-returns-in-Embed c = sym (text-is _ _ _ _ _ _ (sound-here (goal.at.returns-in-Embed c).After-struct_known-1) c.if-n-h.false c.unpack-it.ensures c.in-Embed.is)
+returns-in-Embed c = sym (text-is _ _ _ _ _ _ (sound-here (goal.at.returns-in-Embed c).Else-n-h) c.if-n-h.false c.unpack-it.ensures c.in-Embed.is)
 
 pub returns-in-Mark : goal.returns-in-Mark
-returns-in-Mark c = sym (text-is _ _ _ _ _ _ (sound-here (goal.at.returns-in-Mark c).After-struct_known-1) c.if-n-h.false c.unpack-it.ensures c.in-Mark.is)
+returns-in-Mark c = sym (text-is _ _ _ _ _ _ (sound-here (goal.at.returns-in-Mark c).Else-n-h) c.if-n-h.false c.unpack-it.ensures c.in-Mark.is)

@@ -31,7 +31,7 @@ unit_in-requires c =
     let unpacked = c.unpack-it.ensures in
     let less = rw (c.shown_len-w.ensures, unpacked) at c.if-off-w.true in
     let here = item_at c.args.items.now c.loop-todo.at in
-    rw unpacked (reads-lies _ _ _ _ _ c.loop-todo-test.true c.loop-todo.invariant.0, width_of here.flags.dead here.what _ less)
+    rw unpacked (record { lies_in = reads-lies _ _ _ _ _ c.loop-todo-test.true c.loop-todo.invariant.0; k_bound = width_of here.flags.dead here.what _ less })
 
 pub returns-then-off-w : goal.returns-then-off-w
 returns-then-off-w c =

@@ -18,10 +18,10 @@ fits : (c : Else-answer-ne0) → (
     )
 fits c =
     let a = c.args in
-    granted a.h a.items.now a.units.now a.index a.len a.out.now _ c.plan-answer.ensures c.if-answer-ne0.left
+    granted a.h a.items.now a.units.now a.index a.len a.out.now _ c.plan-answer.ensures c.if-answer-ne0.false
 
 pub returns-then-answer-ne0 : goal.returns-then-answer-ne0
-returns-then-answer-ne0 c = copied_none _ _ _ _ _ _ _ c.plan-answer.ensures c.if-answer-ne0.taken
+returns-then-answer-ne0 c = copied_none _ _ _ _ _ _ _ c.plan-answer.ensures c.if-answer-ne0.true
 
 pub copy_out-requires : goal.copy_out-requires
 copy_out-requires c =
@@ -29,4 +29,4 @@ copy_out-requires c =
     record { reads = reads-start _ _ _ (fits (goal.at.copy_out-requires c).Else-answer-ne0).0 a.index; n_in_bounds = (text-within a.h a.items.now a.units.now a.index a.len _ (fits (goal.at.copy_out-requires c).Else-answer-ne0).1, (fits (goal.at.copy_out-requires c).Else-answer-ne0).2) }
 
 pub returns : goal.returns
-returns c = copied-fits _ _ _ _ _ _ _ c.plan-answer.ensures c.if-answer-ne0.left _ c.copy_out.ensures
+returns c = copied-fits _ _ _ _ _ _ _ c.plan-answer.ensures c.if-answer-ne0.false _ c.copy_out.ensures

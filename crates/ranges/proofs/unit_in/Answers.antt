@@ -6,13 +6,13 @@ use borrow.Author.Rules.{rules}
 use Rattle.ranges.proofs.unit_in.Goals as goal
 
 pub overflow_add-i : goal.overflow_add-i
-overflow_add-i c = omega (arith, in-piece _ _ _ _ _ c.in-Text.is c.pre.0 c.pre.1)
+overflow_add-i c = omega (arith, in-piece _ _ _ _ _ c.in-Text.is c.requires.lies_in c.requires.k_bound)
 
 pub offset_bounds-units-i : goal.offset_bounds-units-i
-offset_bounds-units-i c = omega (arith, in-piece _ _ _ _ _ c.in-Text.is c.pre.0 c.pre.1)
+offset_bounds-units-i c = omega (arith, in-piece _ _ _ _ _ c.in-Text.is c.requires.lies_in c.requires.k_bound)
 
 pub bounds-units-i : goal.bounds-units-i
-bounds-units-i c = in-piece _ _ _ _ _ c.in-Text.is c.pre.0 c.pre.1
+bounds-units-i c = in-piece _ _ _ _ _ c.in-Text.is c.requires.lies_in c.requires.k_bound
 
 pub returns-in-Text : goal.returns-in-Text
 unfolding unit_in

@@ -10,7 +10,7 @@ use borrow.Author.Rules.{rules}
 use Rattle.refusals.proofs.removal_fault.Goals as goal
 use Rattle.refusals.proofs.removal_fault.Goals.{Start}
 
-abbrev text : tie.Start → List ℕ
+abbrev text : Start → List ℕ
 text s = seen (model_of s.args.h s.args.items.now s.args.units.now)
 
 pub range_fault-fault-requires : goal.range_fault-fault-requires

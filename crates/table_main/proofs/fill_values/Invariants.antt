@@ -1,5 +1,4 @@
 use Prim.Native.Nat.{◌≤◌}
-use borrow.Author.Rules.{rules}
 use Rattle.table_main.proofs.fill_values.Given as goal
 
 abbrev pub invariant-loop-left : goal.invariant-loop-left

@@ -1,5 +1,4 @@
 use Prim.Native.Nat.{◌≤◌, ◌-◌}
-use borrow.Author.Rules.{rules}
 use Rattle.table_main.proofs.read_back.Given as goal
 
 abbrev pub invariant-loop-v : goal.invariant-loop-v

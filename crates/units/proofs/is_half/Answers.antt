@@ -1,5 +1,4 @@
 -- `units::is_half` meets its contract. Assumes nothing.
-use borrow.Author.Rules.{rules}
 use Rattle.units.proofs.Halves.{or-first, or-second}
 use Rattle.units.proofs.is_half.Goals as goal
 

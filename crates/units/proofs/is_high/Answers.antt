@@ -1,6 +1,5 @@
 -- `units::is_high` meets its contract: the unit's kind settles it. Assumes nothing.
 use mathlib.Core.Path.{sym, ap, ◌∙◌}
-use borrow.Author.Rules.{rules}
 use Rattle.units.proofs.Halves.{high_kind, high_by-kind}
 use Rattle.units.proofs.is_high.Goals as goal
 

@@ -1,6 +1,5 @@
 -- `units::is_low` meets its contract: the unit's kind settles it. Assumes nothing.
 use mathlib.Core.Path.{sym, ap, ◌∙◌}
-use borrow.Author.Rules.{rules}
 use Rattle.units.proofs.Halves.{low_kind, low_by-kind}
 use Rattle.units.proofs.is_low.Goals as goal
 

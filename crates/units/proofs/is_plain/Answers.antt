@@ -1,9 +1,7 @@
 -- `units::is_plain` meets its contract. The invariant: what is left to look at decides, unless a half was met. Assumes nothing.
-use Prim.Native.Nat.{◌+◌, ◌≤◌, ◌-◌}
+use Prim.Native.Nat.{◌+◌}
 use native.Mathlib.Omega.{arith}
 use mathlib.Core.Path.{refl, sym, ◌∙◌}
-use borrow.Author.Rules.{rules}
-use lib.ListN.{length}
 use Rattle.units.proofs.Plain.{Looked, looked-half, looked-plain, looked-all}
 use Rattle.units.proofs.is_plain.Goals as goal
 use Rattle.units.proofs.is_plain.Goals.{then-is_half, else-is_half}
@@ -30,10 +28,10 @@ loop-i-preserved c =
     let more = c.loop-i-test.true in
     let at = c.loop-i in
     let on : Looked us (at.i + 1) c.if-is_half.plain =
-      elim c.if-is_half.branch [
-        | then-is_half w ↦ looked-half us at.i at.plain at.invariant.1 more _ (half ∙ w.if-is_half.true) w.plain-is
-        | else-is_half w ↦ looked-plain us at.i at.plain at.invariant.1 more _ (half ∙ w.if-is_half.false) w.plain-is
-      ] in
+    elim c.if-is_half.branch [
+      | then-is_half w ↦ looked-half us at.i at.plain at.invariant.1 more _ (half ∙ w.if-is_half.true) w.plain-is
+      | else-is_half w ↦ looked-plain us at.i at.plain at.invariant.1 more _ (half ∙ w.if-is_half.false) w.plain-is
+    ] in
     (omega arith, on)
 
 pub returns : goal.returns

@@ -1,12 +1,11 @@
 -- `units::is_whole` meets its contract. The invariant: the rest, read after the unit that is held, is whole where the text is.
 -- Assumes nothing.
-use Prim.Native.Nat.{◌≤◌, ◌+◌, ◌-◌}
+use Prim.Native.Nat.{◌+◌}
 use mathlib.Core.Path.{◌≡◌, refl, sym, ap, ◌∙◌}
 use mathlib.Core.Bool.{Bool, true, false, not, beq}
 use native.Mathlib.Omega.{arith}
-use borrow.Author.Rules.{rules}
-use lib.ListN.{length, drop}
-use Rattle.units.specs.Surrogates.{paired_from, paired}
+use lib.ListN.{drop}
+use Rattle.units.specs.Surrogates.{paired_from}
 use Rattle.units.proofs.Pairing.{turn_at, turn_off-at, turn_end}
 use Rattle.units.proofs.is_whole.Goals as goal
 

@@ -1,11 +1,7 @@
-use Prim.Native.Nat.{◌≤◌, ◌+◌, ◌-◌}
-use mathlib.Core.Path.{◌≡◌, refl, sym, ap, ◌∙◌}
-use mathlib.Core.Bool.{Bool, true, false, not, beq}
-use native.Mathlib.Omega.{arith}
-use borrow.Author.Rules.{rules}
+use Prim.Native.Nat.{◌≤◌, ◌-◌}
+use mathlib.Core.Path.{◌≡◌}
 use lib.ListN.{length, drop}
 use Rattle.units.specs.Surrogates.{paired_from, paired}
-use Rattle.units.proofs.Pairing.{turn_at, turn_off-at, turn_end}
 use Rattle.units.proofs.is_whole.Given as goal
 
 abbrev pub invariant-loop-i : goal.invariant-loop-i

@@ -3,7 +3,6 @@ use Prim.Native.Nat.{◌<◌}
 use mathlib.Core.Path.{sym, ◌∙◌}
 use native.Mathlib.Omega.{arith}
 use Rattle.units.proofs.Pairing.{splits-end, splits-high, splits-plain}
-use borrow.Author.Rules.{rules}
 use Rattle.units.proofs.splits_pair.Goals as goal
 
 pub returns-then-i-units : goal.returns-then-i-units

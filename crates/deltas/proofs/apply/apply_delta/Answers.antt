@@ -11,23 +11,20 @@ use borrow.Author.Rules.{rules}
 use Rattle.deltas.proofs.apply.apply_delta.Goals as goal
 use Rattle.deltas.proofs.apply.apply_delta.Goals.{Else-many, Else-not-m}
 
-abbrev first : tie.After-measure → tie.Start
-first c = c.before.before.before.before.before.before.before.before
-
 sound-here : (c : Else-not-m) → (
-    let a = (first (goal.at.Else-not-m c).After-measure-m).args in
+    let a = c.args in
     sound_of a.h a.items.now a.units.now ≡ true
     )
-sound-here c = sym (sound-is _ _ _ _ c.measure-m.ensures) ∙ c.if-not-m.false
+sound-here c = sym (sound-is _ _ _ _ c.measure-m.ensures) ∙ not-false _ c.if-not-m.false
 
 read_here : (c : Else-many) → (
-    let a = (first (goal.at.Else-many c).After-measure-m).args in
+    let a = c.args in
     many_of (length a.chunk.now) a.delta ≡ false
     )
 read_here c = sym c.many.ensures ∙ c.if-many.false
 
 pub returns-then-not-m : goal.returns-then-not-m
-returns-then-not-m c = carried-unsound _ _ _ _ _ _ _ (sym (sound-is _ _ _ _ c.measure-m.ensures) ∙ c.if-not-m.true)
+returns-then-not-m c = carried-unsound _ _ _ _ _ _ _ (sym (sound-is _ _ _ _ c.measure-m.ensures) ∙ not-true _ c.if-not-m.true)
 
 pub returns-then-many : goal.returns-then-many
 returns-then-many c = carried-many _ _ _ _ _ _ _ (sound-here (goal.at.returns-then-many c).Else-not-m) (sym c.many.ensures ∙ c.if-many.true)

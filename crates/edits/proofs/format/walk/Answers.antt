@@ -35,7 +35,7 @@ pub shape_of-items-then-turn-eq-STOP : goal.shape_of-items-then-turn-eq-STOP
 shape_of-items-then-turn-eq-STOP c = c.loop-at.invariant.stands.arena.long ∙ sym c.requires.0.arena.long
 
 pub returns-then-turn-eq-STOP : goal.returns-then-turn-eq-STOP
-returns-then-turn-eq-STOP c = record { going = walked_stop c.loop-at.invariant c.loop-at-test.true _ (sym c.turn_of-turn.ensures) c.if-turn-eq-STOP.true; room = omega arith }
+returns-then-turn-eq-STOP c = record { going = walked_stop _ c.loop-at.invariant c.loop-at-test.true _ (sym c.turn_of-turn.ensures) c.if-turn-eq-STOP.true; room = omega arith }
 
 pub split-cut-requires : goal.split-cut-requires
 split-cut-requires c =
@@ -56,7 +56,7 @@ returns-then-turn-eq-CUT c =
     let o = c.loop-at.invariant in
     let more = (cut-more o.stands c.loop-at-test.true c.split-cut.ensures).0 in
     let d = forward-carried c.split-cut.ensures.stands more _ c.forward-place.ensures in
-    record { going = walked-cut o c.loop-at-test.true _ (sym c.turn_of-turn.ensures) c.if-turn-eq-CUT.true c.split-cut.ensures d; room = carried-room c.split-cut.ensures 1 (halving-room _) }
+    record { going = walked-cut _ o c.loop-at-test.true _ (sym c.turn_of-turn.ensures) c.if-turn-eq-CUT.true c.split-cut.ensures d; room = carried-room c.split-cut.ensures 1 (halving-room _) }
 
 pub delete_if-requires : goal.delete_if-requires
 delete_if-requires c = (inside (goal.at.delete_if-requires c).In-loop-at).1
@@ -65,16 +65,16 @@ pub remembered_after-rest-requires : goal.remembered_after-rest-requires
 remembered_after-rest-requires c = neat-here c.loop-at.invariant.stands c.loop-at-test.true
 
 pub forward-at-requires : goal.forward-at-requires
-forward-at-requires c = (c.loop-at-test.true, lt_killed c.turn_of-turn.result c.loop-at.items c.loop-at.at.right _ c.delete_if.ensures (inside (goal.at.forward-at-requires c).After-struct_known-1).1)
+forward-at-requires c = (c.loop-at-test.true, lt_killed c.turn_of-turn.result c.loop-at.items c.loop-at.at.right _ c.delete_if.ensures (inside (goal.at.forward-at-requires c).In-loop-at).1)
 
 pub loop-at-smaller : goal.loop-at-smaller
 loop-at-smaller c = rw c.forward-at.ensures (omega arith)
 
 pub loop-at-preserved : goal.loop-at-preserved
-loop-at-preserved c = walked_on c.loop-at.invariant c.loop-at-test.true _ (sym c.turn_of-turn.ensures) c.if-turn-eq-STOP.false c.if-turn-eq-CUT.false _ c.delete_if.ensures _ c.forward-at.ensures _ c.left_after-left.ensures _ c.remembered_after-rest.ensures
+loop-at-preserved c = walked_on _ c.loop-at.invariant c.loop-at-test.true _ (sym c.turn_of-turn.ensures) c.if-turn-eq-STOP.false c.if-turn-eq-CUT.false _ c.delete_if.ensures _ c.forward-at.ensures _ c.left_after-left.ensures _ c.remembered_after-rest.ensures
 
 pub shape_of-items : goal.shape_of-items
 shape_of-items c = c.loop-at.invariant.stands.arena.long ∙ sym c.requires.0.arena.long
 
 pub returns : goal.returns
-returns c = record { going = walked_end c.loop-at.invariant c.loop-at-test.false; room = omega arith }
+returns c = record { going = walked_end _ c.loop-at.invariant c.loop-at-test.false; room = omega arith }

@@ -11,7 +11,7 @@ use Rattle.events.proofs.event.event.Goals as goal
 pub returns-then-not-sound : goal.returns-then-not-sound
 returns-then-not-sound c =
     let a = c.args in
-    rw (given-broken a.h a.items.now a.units.now _ _ (sym c.sound.ensures ∙ c.if-not-sound.true)) (c.refuse.ensures, (refl, refl))
+    rw (given-broken a.h a.items.now a.units.now _ _ (sym c.sound.ensures ∙ c.if-not-sound.true)) (record { answer = c.refuse.ensures; words = refl; texts = refl })
 
 pub walk-m-requires : goal.walk-m-requires
 walk-m-requires c =
@@ -24,14 +24,14 @@ returns-then-m-ops c =
     let a = c.args in
     let ok = sym c.sound.ensures ∙ c.if-not-sound.false in
     let k = c.walk-m.ensures in
-    rw (no_words a.h a.items.now a.units.now ok _ a.out.now _ _ k c.if-m-ops.true) (c.refuse-then-m-ops.ensures, (same a.h a.items.now a.units.now ok _ a.out.now _ _ k, refl))
+    rw (no_words a.h a.items.now a.units.now ok _ a.out.now _ _ k c.if-m-ops.true) (record { answer = c.refuse-then-m-ops.ensures; words = same a.h a.items.now a.units.now ok _ a.out.now _ _ k; texts = refl })
 
 pub returns-then-m-out : goal.returns-then-m-out
 returns-then-m-out c =
     let a = c.args in
     let ok = sym c.sound.ensures ∙ c.if-not-sound.false in
     let k = c.walk-m.ensures in
-    rw (no-units a.h a.items.now a.units.now ok _ a.out.now _ _ k c.if-m-ops.false c.if-m-out.true) (c.refuse-then-m-out.ensures, (same a.h a.items.now a.units.now ok _ a.out.now _ _ k, refl))
+    rw (no-units a.h a.items.now a.units.now ok _ a.out.now _ _ k c.if-m-ops.false c.if-m-out.true) (record { answer = c.refuse-then-m-out.ensures; words = same a.h a.items.now a.units.now ok _ a.out.now _ _ k; texts = refl })
 
 pub walk-requires : goal.walk-requires
 walk-requires c =
@@ -53,10 +53,8 @@ returns c =
     let k = c.walk-m.ensures in
     let l = c.if-m-ops.false in
     let n = c.if-m-out.false in
-    rw (all-fits a.h a.items.now a.units.now ok _ a.out.now _ _ k l n) (
-      ap₂ (λ (x y : ℕ). record { refusal = 0; ops = x; units = y }) (ops-is a.h a.items.now a.units.now ok _ a.out.now _ _ k) (units-is a.h a.items.now a.units.now ok _ a.out.now _ _ k),
-      (
-        wrote a.h a.items.now a.units.now ok _ a.out.now _ _ k l _ _ c.walk.ensures,
-        filled a.h a.items.now a.units.now ok _ a.out.now _ _ k n _ c.fill.ensures,
-      ),
-    )
+    rw (all-fits a.h a.items.now a.units.now ok _ a.out.now _ _ k l n) (record {
+      answer = ap₂ (λ (x y : ℕ). record { refusal = 0; ops = x; units = y }) (ops-is a.h a.items.now a.units.now ok _ a.out.now _ _ k) (units-is a.h a.items.now a.units.now ok _ a.out.now _ _ k);
+      words = wrote a.h a.items.now a.units.now ok _ a.out.now _ _ k l _ _ c.walk.ensures;
+      texts = filled a.h a.items.now a.units.now ok _ a.out.now _ _ k n _ c.fill.ensures;
+    })

@@ -27,7 +27,8 @@ bounds-items-i c = omega (arith, inside (goal.at.bounds-items-i c).In-loop-k)
 pub copy-requires : goal.copy-requires
 copy-requires c =
     let text = rw (c.seen_by.ensures, c.unpack-it.ensures) at c.new_text-p.ensures in
-    piece-here _ _ _ _ _ _ _ _ _ _ c.loop-k.invariant c.loop-k-test.true _ text
+    let room = piece-here _ _ _ _ _ _ _ _ _ _ c.loop-k.invariant c.loop-k-test.true _ text in
+    record { len_in_bounds = room.0; len_in_bounds_2 = room.1 }
 
 pub overflow_add-n : goal.overflow_add-n
 overflow_add-n c =

@@ -4,7 +4,5 @@ use Rattle.ffi.proofs.Lefts.{left_is}
 use borrow.Author.Rules.{rules}
 use Rattle.ffi.proofs.changing.indovalump_insert_embed_with_attributes.Goals as goal
 
-}
-
 pub returns : goal.returns
 returns c = left_is _ _ _ _ _ _ c.answered.ensures (rw (sym c.head_of-h.ensures, sym c.set_of-set.ensures) c.insert_embed_with_attributes.ensures)

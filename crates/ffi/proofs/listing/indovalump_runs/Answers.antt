@@ -5,7 +5,9 @@ use borrow.Author.Rules.{rules}
 use Rattle.ffi.proofs.listing.indovalump_runs.Goals as goal
 
 pub write_runs-requires : goal.write_runs-requires
-write_runs-requires c = plan-asks _ _ _ _ _ _ c.plan-a.ensures _ c.start.ensures c.if-a-gt0.true _ (omega arith)
+write_runs-requires c =
+    let asks = plan-asks _ _ _ _ _ _ c.plan-a.ensures _ c.start.ensures c.if-a-gt0.true _ (omega arith) in
+    record { stands = asks.0; todo_bound = asks.1.0; n_in_bounds = asks.1.1.0; n_in_bounds_2 = asks.1.1.1 }
 
 pub returns-then-a-gt0 : goal.returns-then-a-gt0
 returns-then-a-gt0 c =

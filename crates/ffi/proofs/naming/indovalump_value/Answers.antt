@@ -19,7 +19,7 @@ pub returns-in-Bool : goal.returns-in-Bool
 returns-in-Bool c = rw (sym c.table_head_of-h.ensures, sym c.value_at-value.ensures, c.in-Bool.is) (refl, flag c.in-Bool.b)
 
 pub returns-in-Int : goal.returns-in-Int
-returns-in-Int c = rw (sym c.table_head_of-h.ensures, sym c.value_at-value.ensures, c.in-Int.is) (refl, to_z-of_z (search rules))
+returns-in-Int c = rw (sym c.table_head_of-h.ensures, sym c.value_at-value.ensures, c.in-Int.is) (refl, to_z-of_z {w = w64} (search rules))
 
 pub returns-in-String : goal.returns-in-String
 returns-in-String c = rw (sym c.table_head_of-h.ensures, sym c.value_at-value.ensures, c.in-String.is) (refl, refl)

@@ -15,10 +15,10 @@ use Rattle.changes.proofs.Calls.{carry_unsound, carry-faulty, carry-edited}
 use Rattle.sheet.proofs.Inserts.{embed_ruled, embed-ruled, embed_ready}
 use borrow.Author.Rules.{rules}
 use Rattle.sheet.proofs.insert.put_embed.Goals as goal
-use Rattle.sheet.proofs.insert.put_embed.Goals.{After-sound, Else-not-sound, Start}
+use Rattle.sheet.proofs.insert.put_embed.Goals.{Else-not-sound, Start}
 
 -- the call that is asked for, and its ruling
-abbrev asked : tie.Start → Call
+abbrev asked : Start → Call
 asked s = embed_call s.args.plain s.args.index s.args.number (says s.args.attrs)
 
 ruled : (s : Start) → (
@@ -37,15 +37,15 @@ pub returns-then-not-sound : goal.returns-then-not-sound
 returns-then-not-sound c = carry_unsound (asked (goal.at.returns-then-not-sound c).Start) _ _ _ (sym c.sound.ensures ∙ c.if-not-sound.true)
 
 pub embed_fault-fault-requires : goal.embed_fault-fault-requires
-embed_fault-fault-requires c = sound-here (goal.at.embed_fault-fault-requires c).After-sound
+embed_fault-fault-requires c = sound-here (goal.at.embed_fault-fault-requires c).Else-not-sound
 
 pub returns-then-fault-ne0 : goal.returns-then-fault-ne0
-returns-then-fault-ne0 c = carry-faulty (asked (goal.at.returns-then-fault-ne0 c).Start) _ _ _ (sound-here (goal.at.returns-then-fault-ne0 c).After-sound) _ (ruled (goal.at.returns-then-fault-ne0 c).Start) _ c.embed_fault-fault.ensures c.if-fault-ne0.true
+returns-then-fault-ne0 c = carry-faulty (asked (goal.at.returns-then-fault-ne0 c).Start) _ _ _ (sound-here (goal.at.returns-then-fault-ne0 c).Else-not-sound) _ (ruled (goal.at.returns-then-fault-ne0 c).Start) _ c.embed_fault-fault.ensures c.if-fault-ne0.true
 
 pub edit-requires : goal.edit-requires
-edit-requires c = (sound-loads _ _ _ (sound-here (goal.at.edit-requires c).After-sound), subst⁻¹ Ready c.embed_change-change.ensures (embed_ready c.args.plain _ (omega (arith, c.ranges.number))))
+edit-requires c = (sound-loads _ _ _ (sound-here (goal.at.edit-requires c).Else-not-sound), subst⁻¹ Ready c.embed_change-change.ensures (embed_ready c.args.plain _ (omega (arith, c.ranges.number))))
 
 pub returns : goal.returns
 returns c =
-    carry-edited (asked (goal.at.returns c).Start) _ _ _ (sound-here (goal.at.returns c).After-sound) _ (ruled (goal.at.returns c).Start) _ c.embed_fault-fault.ensures c.if-fault-ne0.false refl _
+    carry-edited (asked (goal.at.returns c).Start) _ _ _ (sound-here (goal.at.returns c).Else-not-sound) _ (ruled (goal.at.returns c).Start) _ c.embed_fault-fault.ensures c.if-fault-ne0.false refl _
     (granted_by _ _ _ _ _ _ c.edit.ensures c.embed_change-change.ensures)

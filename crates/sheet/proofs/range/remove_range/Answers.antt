@@ -11,35 +11,32 @@ use Rattle.changes.proofs.Calls.{carry_unsound, carry-faulty, carry_quiet, carry
 use Rattle.refusals.proofs.Ranges.{remove_quiet, remove-ruled}
 use borrow.Author.Rules.{rules}
 use Rattle.sheet.proofs.range.remove_range.Goals as goal
-use Rattle.sheet.proofs.range.remove_range.Goals.{After-measure-m, After-shared_slice_known-1, After-struct_known-1, Else-not-m}
+use Rattle.sheet.proofs.range.remove_range.Goals.{Else-not-m, Start}
 
-abbrev first : tie.After-measure → tie.Start
-first c = c.before.before.before.before
-
-abbrev asked : tie.Start → Call
+abbrev asked : Start → Call
 asked s = remove_range s.args.index s.args.len
 
 sound-here : (c : Else-not-m) → (
-    let a = (first (goal.at.Else-not-m c).After-measure-m).args in
+    let a = c.args in
     sound_of a.h a.items.now a.units.now ≡ true
     )
-sound-here c = sym (sound-is _ _ _ _ c.measure-m.ensures) ∙ c.if-not-m.false
+sound-here c = sym (sound-is _ _ _ _ c.measure-m.ensures) ∙ not-false _ c.if-not-m.false
 
 pub returns-then-not-m : goal.returns-then-not-m
-returns-then-not-m c = carry_unsound (asked (first (goal.at.returns-then-not-m c).After-measure-m)) _ _ _ (sym (sound-is _ _ _ _ c.measure-m.ensures) ∙ c.if-not-m.true)
+returns-then-not-m c = carry_unsound (asked (goal.at.returns-then-not-m c).Start) _ _ _ (sym (sound-is _ _ _ _ c.measure-m.ensures) ∙ not-true _ c.if-not-m.true)
 
 pub removal_fault-fault-requires : goal.removal_fault-fault-requires
-removal_fault-fault-requires c = (sound-here (goal.at.removal_fault-fault-requires c).After-struct_known-1, len_is _ _ _ _ c.measure-m.ensures (sound-here (goal.at.removal_fault-fault-requires c).After-struct_known-1))
+removal_fault-fault-requires c = (sound-here (goal.at.removal_fault-fault-requires c).Else-not-m, len_is _ _ _ _ c.measure-m.ensures (sound-here (goal.at.removal_fault-fault-requires c).Else-not-m))
 
 pub returns-then-fault-ne0 : goal.returns-then-fault-ne0
-returns-then-fault-ne0 c = carry-faulty (asked (first (goal.at.returns-then-fault-ne0 c).After-shared_slice_known-1)) _ _ _ (sound-here (goal.at.returns-then-fault-ne0 c).After-struct_known-1) _ refl _ c.removal_fault-fault.ensures c.if-fault-ne0.true
+returns-then-fault-ne0 c = carry-faulty (asked (goal.at.returns-then-fault-ne0 c).Start) _ _ _ (sound-here (goal.at.returns-then-fault-ne0 c).Else-not-m) _ refl _ c.removal_fault-fault.ensures c.if-fault-ne0.true
 
 pub returns-then-len-eq0 : goal.returns-then-len-eq0
-returns-then-len-eq0 c = carry_quiet (asked (first (goal.at.returns-then-len-eq0 c).After-shared_slice_known-1)) _ _ _ (sound-here (goal.at.returns-then-len-eq0 c).After-struct_known-1) (remove_quiet _ _ _ _ c.if-len-eq0.true c.removal_fault-fault.ensures c.if-fault-ne0.false)
+returns-then-len-eq0 c = carry_quiet (asked (goal.at.returns-then-len-eq0 c).Start) _ _ _ (sound-here (goal.at.returns-then-len-eq0 c).Else-not-m) (remove_quiet _ _ _ _ c.if-len-eq0.true c.removal_fault-fault.ensures c.if-fault-ne0.false)
 
 pub edit-requires : goal.edit-requires
-edit-requires c = (sound-loads _ _ _ (sound-here (goal.at.edit-requires c).After-struct_known-1), tt)
+edit-requires c = (sound-loads _ _ _ (sound-here (goal.at.edit-requires c).Else-not-m), tt)
 
 pub returns : goal.returns
 unfolding move_of
-returns c = carry-edited (asked (first (goal.at.returns c).After-shared_slice_known-1)) _ _ _ (sound-here (goal.at.returns c).After-struct_known-1) _ (remove-ruled _ _ _ c.if-len-eq0.false) _ c.removal_fault-fault.ensures c.if-fault-ne0.false refl _ c.edit.ensures
+returns c = carry-edited (asked (goal.at.returns c).Start) _ _ _ (sound-here (goal.at.returns c).Else-not-m) _ (remove-ruled _ _ _ c.if-len-eq0.false) _ c.removal_fault-fault.ensures c.if-fault-ne0.false refl _ c.edit.ensures
