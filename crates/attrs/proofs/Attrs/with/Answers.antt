@@ -7,9 +7,6 @@ use Rattle.attrs.proofs.Attrs.with.Goals as goal
 pub returns-then-key-ge-KEYS : goal.returns-then-key-ge-KEYS
 returns-then-key-ge-KEYS c = simp (le-ltb _ _ c.if-key-ge-KEYS.true)
 
-pub returns-then-value-gt255 : goal.returns-then-value-gt255
-returns-then-value-gt255 c = simp (lt-ltb _ _ c.if-key-ge-KEYS.false, le-ltb _ _ c.if-value-gt255.true)
-
 pub returns : goal.returns
 returns c =
     let l : c.args.value < 256 = omega arith in
