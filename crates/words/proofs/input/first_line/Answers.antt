@@ -1,4 +1,3 @@
-use borrow.Author.Rules.{rules}
 use native.Mathlib.Omega.{arith}
 use Rattle.words.proofs.Moving.{line-whole, line-part}
 use Rattle.words.proofs.input.first_line.Goals as goal

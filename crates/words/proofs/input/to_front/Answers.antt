@@ -1,7 +1,6 @@
-use Prim.Native.Nat.{◌-◌}
-use mathlib.Core.Path.{◌≡◌, refl}
+use mathlib.Core.Path.{refl}
 use native.Mathlib.Omega.{arith}
-use Rattle.words.proofs.Moving.{Moving, moving-start, moving-long, moving-step, moving-done}
+use Rattle.words.proofs.Moving.{moving-start, moving-long, moving-step, moving-done}
 use Rattle.words.proofs.input.to_front.Goals as goal
 
 pub overflow_sub-n : goal.overflow_sub-n

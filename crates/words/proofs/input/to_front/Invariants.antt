@@ -1,7 +1,6 @@
 use Prim.Native.Nat.{◌-◌}
-use mathlib.Core.Path.{◌≡◌, refl}
-use native.Mathlib.Omega.{arith}
-use Rattle.words.proofs.Moving.{Moving, moving-start, moving-long, moving-step, moving-done}
+use mathlib.Core.Path.{◌≡◌}
+use Rattle.words.proofs.Moving.{Moving}
 use Rattle.words.proofs.input.to_front.Given as goal
 
 abbrev pub invariant-loop-i : goal.invariant-loop-i

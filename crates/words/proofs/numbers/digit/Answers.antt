@@ -1,4 +1,3 @@
-use borrow.Author.Rules.{rules}
 use native.Mathlib.Omega.{arith}
 use Rattle.words.proofs.Figures.{digit-decimal, digit-upper, digit-lower, digit-below, digit-between, digit-between-cases, digit-above}
 use Rattle.words.proofs.numbers.digit.Goals as goal

@@ -1,7 +1,5 @@
-use Prim.Native.Nat.{◌-◌}
 use native.Mathlib.Omega.{arith}
-use lib.ListN.{length}
-use Rattle.words.proofs.Figures.{Reading, reading-none, reading-start, reading-end, reading-wrong, reading-over, reading_step}
+use Rattle.words.proofs.Figures.{reading-none, reading-start, reading-end, reading-wrong, reading-over, reading_step}
 use native.Mathlib.Nat.{mul-le-mul}
 use Rattle.words.proofs.numbers.read_number.Goals as goal
 

@@ -1,8 +1,6 @@
 use Prim.Native.Nat.{◌-◌}
-use native.Mathlib.Omega.{arith}
 use lib.ListN.{length}
-use Rattle.words.proofs.Figures.{Reading, reading-none, reading-start, reading-end, reading-wrong, reading-over, reading_step}
-use native.Mathlib.Nat.{mul-le-mul}
+use Rattle.words.proofs.Figures.{Reading}
 use Rattle.words.proofs.numbers.read_number.Given as goal
 
 abbrev pub invariant-loop-i : goal.invariant-loop-i

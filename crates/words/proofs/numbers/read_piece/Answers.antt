@@ -1,4 +1,3 @@
-use borrow.Author.Rules.{rules}
 use native.Mathlib.Omega.{arith}
 use Rattle.words.proofs.Figures.{piece-pair, piece-unit}
 use Rattle.words.proofs.numbers.read_piece.Goals as goal

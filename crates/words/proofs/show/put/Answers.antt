@@ -1,8 +1,4 @@
-use Prim.Native.Nat.{◌-◌, ◌≤◌}
-use mathlib.Core.Path.{◌≡◌}
 use native.Mathlib.Omega.{arith}
-use lib.ListN.{length}
-use lib.Seq.{paste}
 use Rattle.words.proofs.Writing.{copy_start, copy_step, copy-long, copy_done}
 use Rattle.words.proofs.show.put.Goals as goal
 

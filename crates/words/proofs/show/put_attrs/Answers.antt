@@ -1,6 +1,6 @@
 use borrow.Author.Rules.{rules}
 use native.Mathlib.Omega.{arith}
-use Rattle.words.proofs.Writing.{Listing, listing_start, listing_step, listing-done, listing-room}
+use Rattle.words.proofs.Writing.{listing_start, listing_step, listing-done, listing-room}
 use Rattle.words.proofs.show.put_attrs.Goals as goal
 
 pub loop-left-init : goal.loop-left-init

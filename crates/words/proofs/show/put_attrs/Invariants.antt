@@ -1,6 +1,4 @@
-use borrow.Author.Rules.{rules}
-use native.Mathlib.Omega.{arith}
-use Rattle.words.proofs.Writing.{Listing, listing_start, listing_step, listing-done, listing-room}
+use Rattle.words.proofs.Writing.{Listing}
 use Rattle.words.proofs.show.put_attrs.Given as goal
 
 abbrev pub invariant-loop-left : goal.invariant-loop-left

@@ -1,4 +1,3 @@
-use borrow.Author.Rules.{rules}
 use native.Mathlib.Omega.{arith}
 use Rattle.words.proofs.Writing.{fewest_short, decimal-wrote}
 use Rattle.words.proofs.show.put_decimal.Goals as goal
@@ -6,9 +5,9 @@ use Rattle.words.proofs.show.put_decimal.Goals as goal
 pub put-requires : goal.put-requires
 put-requires c =
     let e = c.decimal-k.ensures in
-    omega (arith, e.0.1, fewest_short c.args.x _ (omega arith) e.1.0)
+    omega (arith, e.in_bounds.1, fewest_short c.args.x _ (omega arith) e.len)
 
 pub returns : goal.returns
 returns c =
     let e = c.decimal-k.ensures in
-    decimal-wrote c.args.x _ _ (omega arith) e.1.0 e.1.1 c.put.ensures
+    decimal-wrote c.args.x _ _ (omega arith) e.len e.digits c.put.ensures

@@ -1,4 +1,3 @@
-use borrow.Author.Rules.{rules}
 use native.Mathlib.Omega.{arith}
 use Rattle.words.proofs.Writing.{spelled_short, pair-wrote}
 use Rattle.words.proofs.show.put_pair.Goals as goal

@@ -1,4 +1,3 @@
-use borrow.Author.Rules.{rules}
 use Rattle.words.proofs.show.put_unit.Goals as goal
 
 pub returns : goal.returns

@@ -1,4 +1,3 @@
-use borrow.Author.Rules.{rules}
 use Rattle.words.proofs.Spans.{word-is}
 use Rattle.words.proofs.words.next_word.Goals as goal
 

@@ -1,4 +1,3 @@
-use borrow.Author.Rules.{rules}
 use Rattle.words.proofs.Spans.{flipped, flipped_not}
 use Rattle.words.specs.Words.{parts}
 use Rattle.words.proofs.words.passes.Goals as goal

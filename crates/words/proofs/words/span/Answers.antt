@@ -1,7 +1,5 @@
-use Prim.Native.Nat.{◌-◌}
 use native.Mathlib.Omega.{arith}
-use lib.ListN.{length}
-use Rattle.words.proofs.Spans.{Spanning, spanning-start, spanning-end, spanning-stop, spanning-step}
+use Rattle.words.proofs.Spans.{spanning-start, spanning-end, spanning-stop, spanning-step}
 use Rattle.words.proofs.words.span.Goals as goal
 
 pub loop-i-init : goal.loop-i-init

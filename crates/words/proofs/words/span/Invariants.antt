@@ -1,7 +1,6 @@
 use Prim.Native.Nat.{◌-◌}
-use native.Mathlib.Omega.{arith}
 use lib.ListN.{length}
-use Rattle.words.proofs.Spans.{Spanning, spanning-start, spanning-end, spanning-stop, spanning-step}
+use Rattle.words.proofs.Spans.{Spanning}
 use Rattle.words.proofs.words.span.Given as goal
 
 abbrev pub invariant-loop-i : goal.invariant-loop-i
