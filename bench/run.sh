@@ -2,7 +2,7 @@
 # Builds both, compares their answers on random scripts, and prints the table and the instructions of the fixed script.
 set -eu
 cd "$(dirname "$0")"
-[ -f ../target/staticlib/libffi.a ] || { echo "run 'rt staticlib ffi' in the repository's root first" >&2; exit 1; }
+[ -f ../crates/ffi/out/libffi.a ] || { echo "run 'rt lib' in the repository's folder crates/ffi first" >&2; exit 1; }
 [ -d ../oracle/src ] || { echo "there is no oracle/ in the repository" >&2; exit 1; }
 cargo build --release --offline --quiet
 ./target/release/compare 1

@@ -1,4 +1,4 @@
-/* Sheets of text with embeds and attributes. Link target/staticlib/libffi.a, which `rt staticlib ffi` writes.
+/* Sheets of text with embeds and attributes. Link crates/ffi/out/libffi.a, which `rt lib` in crates/ffi writes.
  *
  * A sheet lies in memory that its owner lends to each call: a head of 3 numbers, INDOVALUMP_ITEMS words and INDOVALUMP_UNITS
  * UTF-16 units. A slice is a pointer and a length in elements. What is lent as non-const must not overlap anything else that is lent.

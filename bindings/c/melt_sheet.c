@@ -1,4 +1,4 @@
-/* A melt sheet. cc bindings/c/melt_sheet.c target/staticlib/libffi.a -o melt_sheet && ./melt_sheet */
+/* A melt sheet. cc bindings/c/melt_sheet.c crates/ffi/out/libffi.a -o melt_sheet && ./melt_sheet */
 #include "indovalump.h"
 #include <stdio.h>
 #include <string.h>

@@ -5,13 +5,13 @@ fn main() {
     println!("cargo:rerun-if-env-changed=INDOVALUMP_LIB");
     let dir = match std::env::var_os("INDOVALUMP_LIB") {
         Some(dir) => PathBuf::from(dir),
-        None => PathBuf::from(std::env::var_os("CARGO_MANIFEST_DIR").unwrap()).join("../../target/staticlib"),
+        None => PathBuf::from(std::env::var_os("CARGO_MANIFEST_DIR").unwrap()).join("../../crates/ffi/out"),
     };
     let archive = dir.join("libffi.a");
     println!("cargo:rerun-if-changed={}", archive.display());
     if !archive.exists() {
         println!("cargo:warning=there is no {}", archive.display());
-        println!("cargo:warning=run `rt staticlib ffi` in the root of the repository (it proves the calls and writes the archive),");
+        println!("cargo:warning=run `rt lib` in the folder crates/ffi of the repository (it proves the calls and writes the archive),");
         println!("cargo:warning=or set INDOVALUMP_LIB to the folder that has libffi.a");
         std::process::exit(1);
     }
