@@ -34,11 +34,11 @@ def is_camel(word):
 
 def main():
     words, top, spec_names, lemmas = collections.Counter(), set(), set(), set()
-    for f in ANTT:
+    for f in ANTT + RT:
         for line in open(f, encoding="utf-8"):
             for w in re.split(SEP, line):
                 words[w] += 1
-            m = DEF.match(line)
+            m = f.endswith(".antt") and DEF.match(line)
             if not m or line.lstrip().startswith(("use ", "mod ", "--")):
                 continue
             name = m.group(2)

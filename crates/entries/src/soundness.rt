@@ -1,7 +1,7 @@
 // Whether the slots in use are in order: kinds and lengths in range, no two entries equal.
 ghost use Rattle.std.specs.Prelude.{◌≡◌, ◌+◌, ◌*◌, ◌<◌, ◌≤◌, length};
 ghost use Rattle.entries.specs.Entry.{entry_at, entries, among};
-ghost use Rattle.entries.specs.Order.{fits as fits_of, fits_at, all_fit, distinct as distinctOf, shelf_sound};
+ghost use Rattle.entries.specs.Order.{fits as fits_of, fits_at, all_fit, distinct as distinct_of, shelf_sound};
 
 use crate::slots::{SLOT, content, find, kind_at};
 
@@ -77,7 +77,7 @@ fn repeats(table: &[u8], slot: usize, behind: usize) -> bool
 
 fn distinct(table: &[u8], from: usize, count: usize) -> bool
     requires { (from + count ≤ 271) × (length table.now ≡ 9214) }
-    ensures { result ≡ distinctOf (entries table.now from count) }
+    ensures { result ≡ distinct_of (entries table.now from count) }
 {
     let mut i = 0;
     while i < count {

@@ -1,6 +1,6 @@
 // The table: its head in two lent numbers, its entries in lent bytes.
 ghost use Rattle.std.specs.Prelude.{◌≡◌, ◌≤◌, length};
-ghost use Rattle.table.specs.Value.{bool as boolValue, int as intValue, string as stringValue};
+ghost use Rattle.table.specs.Value.{bool as bool_value, int as int_value, string as string_value};
 ghost use Rattle.table.specs.Sound.{fresh_head, sound_of};
 ghost use Rattle.table.specs.Ask.{ask_name, ask_value, Gives};
 ghost use Rattle.lookup.specs.Show.{shown_of, name_of, string_of};
@@ -58,7 +58,7 @@ pub extern "C" fn indovalump_ask_bool(
     value: bool,
     number: &mut u32,
 ) -> u32
-    ensures { Gives (ask_value (table_head_of head.old) table.old (boolValue value)) (asked_in result number.new head.new) table.new }
+    ensures { Gives (ask_value (table_head_of head.old) table.old (bool_value value)) (asked_in result number.new head.new) table.new }
 {
     let h = table_head_of(head);
     given(head, number, table::ask_bool(h, table, value))
@@ -71,7 +71,7 @@ pub extern "C" fn indovalump_ask_int(
     value: i64,
     number: &mut u32,
 ) -> u32
-    ensures { Gives (ask_value (table_head_of head.old) table.old (intValue value)) (asked_in result number.new head.new) table.new }
+    ensures { Gives (ask_value (table_head_of head.old) table.old (int_value value)) (asked_in result number.new head.new) table.new }
 {
     let h = table_head_of(head);
     given(head, number, table::ask_int(h, table, value))
@@ -84,7 +84,7 @@ pub extern "C" fn indovalump_ask_string(
     value: &[u8],
     number: &mut u32,
 ) -> u32
-    ensures { Gives (ask_value (table_head_of head.old) table.old (stringValue value.now)) (asked_in result number.new head.new) table.new }
+    ensures { Gives (ask_value (table_head_of head.old) table.old (string_value value.now)) (asked_in result number.new head.new) table.new }
 {
     let h = table_head_of(head);
     given(head, number, table::ask_string(h, table, value))

@@ -3,7 +3,7 @@
 
 ghost use Rattle.std.specs.Prelude.{◌≡◌, ◌+◌, ◌<◌, ◌≤◌, length};
 ghost use Rattle.entries.specs.Entry.{entries};
-ghost use Rattle.table.specs.Value.{bool as boolValue, int as intValue, string as stringValue};
+ghost use Rattle.table.specs.Value.{bool as bool_value, int as int_value, string as string_value};
 ghost use Rattle.table.specs.Sound.{fresh_head, sound_of};
 ghost use Rattle.table.specs.Ask.{shelf_of, grown_of, too_long, asking_of, ask_of, ask_name, ask_value, Gives};
 
@@ -199,21 +199,21 @@ pub fn ask_name(h: TableHead, table: &mut [u8], name: &[u8]) -> Asked
 }
 
 pub fn ask_bool(h: TableHead, table: &mut [u8], b: bool) -> Asked
-    ensures { Gives (ask_value h table.old (boolValue b)) result table.new }
+    ensures { Gives (ask_value h table.old (bool_value b)) result table.new }
 {
     let bytes = [b as u8];
     ask(h, table, BOOL, &bytes)
 }
 
 pub fn ask_int(h: TableHead, table: &mut [u8], n: i64) -> Asked
-    ensures { Gives (ask_value h table.old (intValue n)) result table.new }
+    ensures { Gives (ask_value h table.old (int_value n)) result table.new }
 {
     let bytes = bytes_of(bits_of(n));
     ask(h, table, INT, &bytes)
 }
 
 pub fn ask_string(h: TableHead, table: &mut [u8], text: &[u8]) -> Asked
-    ensures { Gives (ask_value h table.old (stringValue text.now)) result table.new }
+    ensures { Gives (ask_value h table.old (string_value text.now)) result table.new }
 {
     ask(h, table, STRING, text)
 }
