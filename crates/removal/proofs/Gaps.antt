@@ -4,7 +4,7 @@ use mathlib.Core.Path.{◌≡◌, refl, ap}
 use mathlib.Core.Bool.{true, false, cond, not, ◌&&◌}
 use mathlib.Core.List.{List, ◌∷◌}
 use Rattle.sets.specs.Sets.{Env}
-use Rattle.rules.specs.Sheet.{Item, is_mark}
+use Rattle.rules.specs.Sheet.{is_mark}
 use Rattle.rules.specs.Places.{Move}
 use Rattle.rules.specs.Edits.{idle}
 use Rattle.layout.specs.declared.head.Head.{Head}

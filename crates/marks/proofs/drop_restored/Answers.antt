@@ -1,12 +1,9 @@
 -- `marks::drop_restored` meets its contract: what Close still has to do from here, it had to do from the start. Assumes nothing.
 use mathlib.Core.Path.{sym, ◌∙◌}
 use native.Mathlib.Omega.{arith}
-use borrow.Author.Rules.{rules}
-use borrow.Author.Tests.{not-true, not-false}
 use Rattle.attrs.specs.Packed.{says}
 use Rattle.rules.specs.Edits.{closing}
-use Rattle.layout.specs.declared.head.Head.{Head}
-use Rattle.arena.specs.Places.{Standing, Going}
+use Rattle.arena.specs.Places.{Going}
 use Rattle.arena.proofs.Carried.{going_start}
 use Rattle.arena.proofs.Standing.{right_lt}
 use Rattle.marks.proofs.Closes.{closed-past, closed-stop, closed-end}

@@ -1,14 +1,7 @@
-use mathlib.Core.Path.{sym, ◌∙◌}
-use native.Mathlib.Omega.{arith}
-use borrow.Author.Rules.{rules}
-use borrow.Author.Tests.{not-true, not-false}
 use Rattle.attrs.specs.Packed.{says}
 use Rattle.rules.specs.Edits.{closing}
 use Rattle.layout.specs.declared.head.Head.{Head}
 use Rattle.arena.specs.Places.{Standing, Going}
-use Rattle.arena.proofs.Carried.{going_start}
-use Rattle.arena.proofs.Standing.{right_lt}
-use Rattle.marks.proofs.Closes.{closed-past, closed-stop, closed-end}
 use Rattle.marks.proofs.drop_restored.Given as goal
 
 abbrev pub invariant-loop-at : goal.invariant-loop-at

@@ -3,7 +3,6 @@ use mathlib.Core.Path.{sym, ap, ◌∙◌}
 use Rattle.attrs.specs.Packed.{says}
 use Rattle.attrs.proofs.Force.{says-without}
 use Rattle.marks.proofs.Words.{dropping-is}
-use borrow.Author.Rules.{rules}
 use Rattle.marks.proofs.dropped.Goals as goal
 
 pub returns-then-it : goal.returns-then-it

@@ -1,6 +1,5 @@
 -- `marks::insert_attributes` meets its contract. Assumes nothing.
 use Rattle.marks.proofs.Opens.{opens}
-use borrow.Author.Rules.{rules}
 use Rattle.marks.proofs.insert_attributes.Goals as goal
 
 pub returns : goal.returns

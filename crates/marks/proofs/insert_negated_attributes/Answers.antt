@@ -1,6 +1,5 @@
 -- `marks::insert_negated_attributes` meets its contract. Assumes nothing.
 use Rattle.arena.proofs.Carried.{going_done}
-use borrow.Author.Rules.{rules}
 use Rattle.marks.proofs.insert_negated_attributes.Goals as goal
 
 pub returns : goal.returns

@@ -1,13 +1,6 @@
-use mathlib.Core.Path.{sym, ◌∙◌}
-use native.Mathlib.Omega.{arith}
-use borrow.Author.Rules.{rules}
-use borrow.Author.Tests.{not-true, not-false}
 use Rattle.attrs.specs.Packed.{says}
 use Rattle.layout.specs.declared.head.Head.{Head}
 use Rattle.arena.specs.Places.{Standing, Going}
-use Rattle.arena.proofs.Carried.{going_start}
-use Rattle.arena.proofs.Standing.{right_lt}
-use Rattle.marks.proofs.Settles.{settled-past, settled-stop, settled-end}
 use Rattle.marks.specs.Moves.{settling}
 use Rattle.marks.proofs.minimize_attr_changes.Given as goal
 

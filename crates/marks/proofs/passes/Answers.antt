@@ -2,7 +2,6 @@
 use mathlib.Core.Path.{sym}
 use Rattle.attrs.specs.Packed.{says}
 use Rattle.marks.proofs.Words.{passable-is}
-use borrow.Author.Rules.{rules}
 use Rattle.marks.proofs.passes.Goals as goal
 
 pub returns-then-it : goal.returns-then-it

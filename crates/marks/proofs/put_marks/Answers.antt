@@ -2,7 +2,7 @@
 use mathlib.Core.Path.{sym, ◌∙◌}
 use native.Mathlib.Omega.{arith}
 use borrow.Author.Rules.{rules}
-use Rattle.marks.proofs.Puts.{Marking, marking-start, marking-end, marking-asks, marking-turn}
+use Rattle.marks.proofs.Puts.{marking-start, marking-end, marking-asks, marking-turn}
 use Rattle.marks.proofs.put_marks.Goals as goal
 
 pub loop-left-init : goal.loop-left-init

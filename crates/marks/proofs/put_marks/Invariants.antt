@@ -1,7 +1,4 @@
-use mathlib.Core.Path.{sym, ◌∙◌}
-use native.Mathlib.Omega.{arith}
-use borrow.Author.Rules.{rules}
-use Rattle.marks.proofs.Puts.{Marking, marking-start, marking-end, marking-asks, marking-turn}
+use Rattle.marks.proofs.Puts.{Marking}
 use Rattle.marks.proofs.put_marks.Given as goal
 
 abbrev pub invariant-loop-left : goal.invariant-loop-left

@@ -1,6 +1,5 @@
 -- `removal::clean_format_gap` meets its contract: its two walks are rule Tidy. Assumes nothing.
 use Rattle.removal.proofs.Tidies.{gap-tidied}
-use borrow.Author.Rules.{rules}
 use Rattle.removal.proofs.clean_format_gap.Goals as goal
 
 pub returns : goal.returns

@@ -1,7 +1,6 @@
 -- `removal::delete_and_tidy` meets its contract. Assumes nothing.
 use Rattle.arena.proofs.Walks.{kept-asks}
 use Rattle.removal.proofs.Tidies.{again, stop-later, deleted-tidied}
-use borrow.Author.Rules.{rules}
 use Rattle.removal.proofs.delete_and_tidy.Goals as goal
 
 pub kept-start-requires : goal.kept-start-requires

@@ -1,6 +1,5 @@
 -- `removal::delete_here` meets its contract. Assumes nothing.
 use Rattle.removal.proofs.Removes.{deletes-none, deletes-some}
-use borrow.Author.Rules.{rules}
 use Rattle.removal.proofs.delete_here.Goals as goal
 
 pub returns-then-len-eq0 : goal.returns-then-len-eq0

@@ -1,5 +1,4 @@
 -- `removal::delete_if` meets its contract. Assumes nothing.
-use borrow.Author.Rules.{rules}
 use Rattle.removal.proofs.delete_if.Goals as goal
 
 pub returns-then-yes : goal.returns-then-yes

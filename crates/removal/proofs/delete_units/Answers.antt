@@ -4,9 +4,7 @@ use Rattle.removal.proofs.Deletes.{deleted-all, deleted-end, deleted-past, delet
 use Prim.Native.Nat.{◌<◌}
 use mathlib.Core.Path.{sym, ◌∙◌}
 use native.Mathlib.Omega.{arith}
-use borrow.Author.Rules.{rules}
 use lib.ListN.{length}
-use Rattle.arena.specs.Places.{Going}
 use Rattle.arena.proofs.Carried.{going_start}
 use Rattle.arena.proofs.Standing.{right_lt}
 use Rattle.removal.specs.Tidies.{deleting}

@@ -1,7 +1,6 @@
 -- `removal::does_nothing` meets its contract. Assumes nothing.
 use mathlib.Core.Path.{sym, ◌∙◌}
 use borrow.Author.Tests.{eq-eqb, ne_eqb}
-use borrow.Author.Rules.{rules}
 use Rattle.removal.proofs.does_nothing.Goals as goal
 
 pub returns-then-value-get : goal.returns-then-value-get

@@ -1,12 +1,9 @@
 -- `removal::gap_end` meets its contract: the end of the gap from here is the end from the start. Assumes nothing.
 use mathlib.Core.Path.{◌≡◌, sym, ◌∙◌}
 use native.Mathlib.Omega.{arith}
-use borrow.Author.Rules.{rules}
-use borrow.Author.Tests.{not-true, not-false}
 use Rattle.rules.specs.Sheet.{is_mark}
-use Rattle.layout.specs.declared.head.Head.{Head}
 use Rattle.layout.specs.Chain.{item_at}
-use Rattle.arena.specs.Places.{Standing, Going}
+use Rattle.arena.specs.Places.{Going}
 use Rattle.arena.proofs.Carried.{going_start}
 use Rattle.arena.proofs.Standing.{right_lt}
 use Rattle.removal.specs.Tidies.{ending}

@@ -2,7 +2,6 @@
 use mathlib.Core.Path.{sym}
 use Rattle.attrs.specs.Packed.{env_of}
 use Rattle.removal.proofs.Gaps.{idle-is}
-use borrow.Author.Rules.{rules}
 use Rattle.removal.proofs.is_idle.Goals as goal
 
 pub returns-then-it : goal.returns-then-it

@@ -1,7 +1,6 @@
 -- `removal::remove_here` meets its contract. Assumes nothing.
 use mathlib.Core.Path.{sym, ◌∙◌}
 use Rattle.removal.proofs.Removes.{removes-plain, removes-tidied}
-use borrow.Author.Rules.{rules}
 use Rattle.removal.proofs.remove_here.Goals as goal
 
 pub returns-then-is_empty : goal.returns-then-is_empty

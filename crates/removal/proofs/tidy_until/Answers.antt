@@ -3,14 +3,9 @@ use Prim.Native.Nat.{suc, ◌-◌, ◌<◌}
 use Rattle.arena.specs.declared.Place.{Place}
 use mathlib.Core.Path.{◌≡◌, sym, ap, ◌∙◌}
 use native.Mathlib.Omega.{arith}
-use borrow.Author.Rules.{rules}
 use lib.ListN.{length}
-use Rattle.layout.specs.declared.head.Head.{Head}
-use Rattle.arena.specs.Places.{Standing, Going}
 use Rattle.arena.proofs.Carried.{going_start}
 use Rattle.arena.proofs.Standing.{right_lt}
-use Rattle.attrs.specs.Packed.{env_of}
-use Rattle.removal.specs.Tidies.{tidy_first}
 use Rattle.removal.proofs.Gaps.{tidied-past, tidied-all}
 use Rattle.removal.proofs.tidy_until.Goals as goal
 use Rattle.removal.proofs.tidy_until.Goals.{After-struct_known-1, In-loop-at}

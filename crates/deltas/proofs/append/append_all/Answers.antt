@@ -1,16 +1,14 @@
 -- `deltas::append::append_all` meets its contract: what is left to put gives what there was to put at first. Assumes nothing.
-use Prim.Native.Nat.{ℕ, suc, ◌+◌, ◌-◌}
+use Prim.Native.Nat.{ℕ, suc, ◌+◌}
 use native.Mathlib.Omega.{arith}
 use mathlib.Core.Path.{◌≡◌, sym, ap, ◌∙◌}
 use mathlib.Core.List.{◌∷◌}
 use lib.ListN.{length, get_or, drop}
 use borrow.Author.Tests.{eq-eqb, ne_eqb}
-use Rattle.rules.specs.Calls.{new_units}
 use Rattle.ops.specs.Ops.{ops_of}
-use Rattle.changes.specs.Appends.{appended}
 use Rattle.carrying.specs.Turns.{given}
 use Rattle.carrying.proofs.Carrying.{length_mapped, unread, given-length, given-at}
-use Rattle.deltas.proofs.Appending.{Putting, putting-start, put-part, put-room, putting-next, putting-done}
+use Rattle.deltas.proofs.Appending.{putting-start, put-part, put-room, putting-next, putting-done}
 use borrow.Author.Rules.{rules}
 use Rattle.deltas.proofs.append.append_all.Goals as goal
 use Rattle.deltas.proofs.append.append_all.Goals.{In-loop-i, Start}

@@ -1,16 +1,9 @@
-use Prim.Native.Nat.{ℕ, suc, ◌+◌, ◌-◌}
-use native.Mathlib.Omega.{arith}
-use mathlib.Core.Path.{◌≡◌, sym, ap, ◌∙◌}
-use mathlib.Core.List.{◌∷◌}
-use lib.ListN.{length, get_or, drop}
-use borrow.Author.Tests.{eq-eqb, ne_eqb}
+use Prim.Native.Nat.{◌-◌}
 use Rattle.rules.specs.Calls.{new_units}
 use Rattle.ops.specs.Ops.{ops_of}
 use Rattle.changes.specs.Appends.{appended}
 use Rattle.carrying.specs.Turns.{given}
-use Rattle.carrying.proofs.Carrying.{length_mapped, unread, given-length, given-at}
-use Rattle.deltas.proofs.Appending.{Putting, putting-start, put-part, put-room, putting-next, putting-done}
-use borrow.Author.Rules.{rules}
+use Rattle.deltas.proofs.Appending.{Putting}
 use Rattle.deltas.proofs.append.append_all.Given as goal
 
 abbrev pub invariant-loop-i : goal.invariant-loop-i

@@ -11,7 +11,6 @@ use Rattle.changes.specs.Appends.{appended}
 use Rattle.deltas.proofs.Refusals.{part_in_lem, op-in}
 use Rattle.deltas.proofs.Laid.{units-long}
 use Rattle.deltas.proofs.Appending.{part-is, nothing_put}
-use borrow.Author.Rules.{rules}
 use Rattle.deltas.proofs.append.append_op.Goals as goal
 use Rattle.deltas.proofs.append.append_op.Goals.{In-Text}
 

@@ -7,7 +7,6 @@ use Rattle.layout.specs.Memory.{sound_of}
 use Rattle.soundness.proofs.Measures.{sound-is, len_is}
 use Rattle.deltas.specs.Checks.{many_of}
 use Rattle.deltas.proofs.Applying.{carried-unsound, carried-many, carried-short, carried-ruled}
-use borrow.Author.Rules.{rules}
 use Rattle.deltas.proofs.apply.apply_delta.Goals as goal
 use Rattle.deltas.proofs.apply.apply_delta.Goals.{Else-many, Else-not-m}
 

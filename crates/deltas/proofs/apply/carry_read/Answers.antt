@@ -12,7 +12,6 @@ use Rattle.ops.specs.Ops.{ops_of}
 use Rattle.carrying.specs.Turns.{bringing, given}
 use Rattle.deltas.proofs.Reading.{many-none}
 use Rattle.deltas.proofs.Applying.{delta-long, delta-granted}
-use borrow.Author.Rules.{rules}
 use Rattle.deltas.proofs.apply.carry_read.Goals as goal
 use Rattle.deltas.proofs.apply.carry_read.Goals.{After-delta_fault-wrong, Else-new-start, Start}
 

@@ -1,7 +1,6 @@
 -- `deltas::apply::delta_fault` meets its contract. Assumes nothing.
 use Rattle.cuts.proofs.Sounds.{used-is, sound-reads, length-is}
 use Rattle.deltas.proofs.Reading.{many-none}
-use borrow.Author.Rules.{rules}
 use Rattle.deltas.proofs.apply.delta_fault.Goals as goal
 
 pub slice_bounds-fault-end : goal.slice_bounds-fault-end

@@ -2,7 +2,6 @@
 use native.Mathlib.Omega.{arith}
 use lib.ListN.{length}
 use borrow.Author.Tests.{lt-ltb, le-ltb}
-use borrow.Author.Rules.{rules}
 use Rattle.deltas.proofs.apply.short_scratch.Goals as goal
 
 pub returns-then-items : goal.returns-then-items

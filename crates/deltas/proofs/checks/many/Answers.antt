@@ -1,5 +1,5 @@
 -- `deltas::checks::many` meets its contract: no part read so far lies past the end. Assumes nothing.
-use Prim.Native.Nat.{suc, ◌-◌}
+use Prim.Native.Nat.{suc}
 use native.Mathlib.Omega.{arith}
 use mathlib.Core.Path.{◌≡◌, refl, sym, ◌∙◌}
 use mathlib.Core.Bool.{true, false}
@@ -7,7 +7,7 @@ use mathlib.Core.List.{◌∷◌}
 use lib.ListN.{length, get_or, drop}
 use Rattle.carrying.specs.Turns.{given}
 use Rattle.carrying.proofs.Carrying.{length_mapped, unread, given-length, given-at}
-use Rattle.deltas.proofs.Reading.{NoneYet, past-here, past-later, past-none, many-count, many-parts}
+use Rattle.deltas.proofs.Reading.{past-here, past-later, past-none, many-count, many-parts}
 use borrow.Author.Rules.{rules}
 use Rattle.deltas.proofs.checks.many.Goals as goal
 use Rattle.deltas.proofs.checks.many.Goals.{In-loop-i, Start}

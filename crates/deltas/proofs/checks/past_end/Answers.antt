@@ -3,7 +3,6 @@ use mathlib.Core.Path.{sym, ap, ◌∙◌}
 use Rattle.ops.specs.declared.delta.Inserted.{Inserted}
 use Rattle.ops.specs.declared.delta.Op.TheVariants.{Insert}
 use Rattle.deltas.specs.Checks.{past_end}
-use borrow.Author.Rules.{rules}
 use Rattle.deltas.proofs.checks.past_end.Goals as goal
 
 pub returns-in-Text : goal.returns-in-Text

@@ -1,12 +1,7 @@
-use Prim.Native.Nat.{ℕ, suc, ◌+◌, ◌*◌, ◌-◌, ◌≤◌}
-use native.Mathlib.Omega.{arith}
-use mathlib.Core.Path.{◌≡◌, ap, ◌∙◌}
-use mathlib.Core.List.{◌∷◌}
-use lib.ListN.{length, get_or, drop}
+use Prim.Native.Nat.{◌+◌, ◌*◌, ◌-◌, ◌≤◌}
+use mathlib.Core.Path.{◌≡◌}
+use lib.ListN.{drop}
 use Rattle.carrying.specs.Turns.{bringing, given}
-use Rattle.carrying.proofs.Carrying.{length_mapped, unread, given-length, given-at}
-use Rattle.deltas.proofs.Reading.{total-next, total_done}
-use borrow.Author.Rules.{rules}
 use Rattle.deltas.proofs.checks.total.Given as goal
 
 abbrev pub invariant-loop-i : goal.invariant-loop-i

@@ -1,7 +1,6 @@
 -- `deltas::faults::delete_fault` meets its contract. Assumes nothing.
 use mathlib.Core.Path.{sym, ◌∙◌}
 use Rattle.deltas.proofs.Refusals.{delete-short, delete-fine}
-use borrow.Author.Rules.{rules}
 use Rattle.deltas.proofs.faults.delete_fault.Goals as goal
 
 pub returns-then-cuts_pair : goal.returns-then-cuts_pair

@@ -1,6 +1,5 @@
 -- `deltas::faults::op_fault` meets its contract. Assumes nothing.
 use Rattle.deltas.proofs.Refusals.{op-in}
-use borrow.Author.Rules.{rules}
 use Rattle.deltas.proofs.faults.op_fault.Goals as goal
 
 pub part_fault-requires : goal.part_fault-requires

@@ -1,6 +1,5 @@
 -- `deltas::faults::part_fault` meets its contract. Assumes nothing.
 use Rattle.deltas.proofs.Refusals.{part_in_lem}
-use borrow.Author.Rules.{rules}
 use Rattle.deltas.proofs.faults.part_fault.Goals as goal
 
 pub text_fault-requires : goal.text_fault-requires

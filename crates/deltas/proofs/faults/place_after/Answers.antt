@@ -1,5 +1,4 @@
 -- `deltas::faults::place_after` meets its contract. Assumes nothing.
-use borrow.Author.Rules.{rules}
 use Rattle.deltas.proofs.faults.place_after.Goals as goal
 
 pub returns-in-Delete : goal.returns-in-Delete

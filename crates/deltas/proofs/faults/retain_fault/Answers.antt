@@ -1,6 +1,5 @@
 -- `deltas::faults::retain_fault` meets its contract. Assumes nothing.
 use mathlib.Core.Path.{sym, ◌∙◌}
-use borrow.Author.Rules.{rules}
 use Rattle.deltas.proofs.faults.retain_fault.Goals as goal
 
 pub returns-then-cuts_pair : goal.returns-then-cuts_pair

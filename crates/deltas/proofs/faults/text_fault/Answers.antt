@@ -4,7 +4,6 @@ use native.Mathlib.Nat.{add-sub_cancel_left}
 use mathlib.Core.Path.{sym, ap, ◌∙◌}
 use lib.ListN.{take, drop}
 use Rattle.units.specs.Surrogates.{paired}
-use borrow.Author.Rules.{rules}
 use Rattle.deltas.proofs.faults.text_fault.Goals as goal
 
 pub returns-then-is_whole : goal.returns-then-is_whole

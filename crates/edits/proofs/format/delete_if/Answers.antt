@@ -1,5 +1,4 @@
 use borrow.Author.Tests.{ne_eqb}
-use borrow.Author.Rules.{rules}
 use Rattle.edits.proofs.format.delete_if.Goals as goal
 
 pub returns-then-turn-eq-MARK : goal.returns-then-turn-eq-MARK

@@ -5,7 +5,6 @@ use Rattle.rules.specs.Edits.{walking}
 use Rattle.arena.proofs.Carried.{going_done}
 use Rattle.marks.proofs.Opens.{settled-carried}
 use Rattle.marks.proofs.Opens.{opens-room}
-use borrow.Author.Rules.{rules}
 use Rattle.edits.proofs.format.insert_format.Goals as goal
 
 pub walk-walked-requires : goal.walk-walked-requires

@@ -1,6 +1,5 @@
 use native.Mathlib.Omega.{arith}
 use borrow.Author.Tests.{ne_eqb}
-use borrow.Author.Rules.{rules}
 use Rattle.edits.proofs.format.left_after.Goals as goal
 
 pub returns-then-turn-ne-THROUGH : goal.returns-then-turn-ne-THROUGH

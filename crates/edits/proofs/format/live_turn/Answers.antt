@@ -2,7 +2,6 @@ use native.Mathlib.Omega.{arith}
 use mathlib.Core.Path.{sym, ◌∙◌}
 use borrow.Author.Tests.{le-leb, lt-leb}
 use Rattle.edits.specs.Formats.{live_turn}
-use borrow.Author.Rules.{rules}
 use Rattle.edits.proofs.format.live_turn.Goals as goal
 
 pub returns-then-len-left : goal.returns-then-len-left

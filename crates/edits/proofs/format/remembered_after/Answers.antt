@@ -6,7 +6,6 @@ use Rattle.layout.specs.declared.word.Content.TheVariants.{Mark}
 use Rattle.layout.specs.declared.word.Item.{Item}
 use mathlib.Core.Path.{sym, ap, ◌∙◌}
 use borrow.Author.Tests.{ne_eqb}
-use borrow.Author.Rules.{rules}
 use Rattle.edits.proofs.format.remembered_after.Goals as goal
 
 pub returns-then-turn-ne-MARK : goal.returns-then-turn-ne-MARK

@@ -1,7 +1,5 @@
 use mathlib.Core.Path.{sym, ◌∙◌}
-use borrow.Author.Tests.{not-true, not-false}
 use Rattle.edits.specs.Formats.{turn_of}
-use borrow.Author.Rules.{rules}
 use Rattle.edits.proofs.format.turn_of.Goals as goal
 
 pub returns-then-not-walks_on : goal.returns-then-not-walks_on

@@ -2,11 +2,7 @@
 use Prim.Native.Nat.{◌<◌}
 use mathlib.Core.Path.{sym, ◌∙◌}
 use native.Mathlib.Omega.{arith}
-use borrow.Author.Rules.{rules}
 use lib.ListN.{length}
-use Rattle.attrs.specs.Packed.{says}
-use Rattle.rules.specs.Edits.{walking}
-use Rattle.arena.specs.Places.{Going}
 use Rattle.arena.proofs.Carried.{going_start}
 use Rattle.arena.proofs.Standing.{right_lt, neat-here}
 use Rattle.arena.proofs.Steps.{forward-carried, cut-more}

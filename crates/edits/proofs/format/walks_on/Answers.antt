@@ -1,6 +1,5 @@
 use mathlib.Core.Path.{sym, ◌∙◌}
 use borrow.Author.Tests.{lt-ltb, le-ltb}
-use borrow.Author.Rules.{rules}
 use Rattle.edits.proofs.format.walks_on.Goals as goal
 
 pub returns-then-left-gt0 : goal.returns-then-left-gt0

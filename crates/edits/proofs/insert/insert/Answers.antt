@@ -3,7 +3,6 @@ use native.Mathlib.Omega.{arith}
 use Rattle.edits.proofs.Inserts.{insert-carried}
 use Rattle.marks.proofs.Opens.{opens-room}
 use Rattle.marks.proofs.Rooms.{carried-next}
-use borrow.Author.Rules.{rules}
 use Rattle.edits.proofs.insert.insert.Goals as goal
 
 pub put-new-requires : goal.put-new-requires

@@ -1,6 +1,5 @@
 -- `edits::insert::insert_plain` meets its contract. Assumes nothing.
 use Rattle.edits.proofs.Inserts.{plain_carried}
-use borrow.Author.Rules.{rules}
 use Rattle.edits.proofs.insert.insert_plain.Goals as goal
 
 pub returns : goal.returns

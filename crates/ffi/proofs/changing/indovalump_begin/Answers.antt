@@ -1,7 +1,6 @@
 -- `ffi::changing::indovalump_begin` meets its contract. Assumes nothing.
 use mathlib.Core.Path.{sym}
 use mathlib.Core.Path.{sym, ◌∙◌}
-use borrow.Author.Rules.{rules}
 use Rattle.ffi.proofs.changing.indovalump_begin.Goals as goal
 
 pub returns : goal.returns

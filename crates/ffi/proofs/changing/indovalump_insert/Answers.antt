@@ -1,7 +1,6 @@
 -- `ffi::changing::indovalump_insert` meets its contract. Assumes nothing.
 use mathlib.Core.Path.{sym}
 use Rattle.ffi.proofs.Lefts.{left_is}
-use borrow.Author.Rules.{rules}
 use Rattle.ffi.proofs.changing.indovalump_insert.Goals as goal
 
 pub returns : goal.returns

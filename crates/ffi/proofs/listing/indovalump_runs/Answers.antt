@@ -1,7 +1,6 @@
 -- `ffi::listing::indovalump_runs` meets its contract. Assumes nothing.
 use native.Mathlib.Omega.{arith}
 use Rattle.ffi.proofs.Plans.{plan-asks, plan-wrote, plan-none}
-use borrow.Author.Rules.{rules}
 use Rattle.ffi.proofs.listing.indovalump_runs.Goals as goal
 
 pub write_runs-requires : goal.write_runs-requires

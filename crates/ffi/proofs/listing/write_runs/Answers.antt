@@ -1,8 +1,6 @@
 -- `ffi::listing::write_runs` meets its contract. Assumes nothing.
-use Prim.Native.Nat.{◌-◌}
 use native.Mathlib.Omega.{arith}
-use borrow.Author.Rules.{rules}
-use Rattle.ffi.proofs.Writings.{Writing, writing_start, fewer, writing-next, writing-end}
+use Rattle.ffi.proofs.Writings.{writing_start, fewer, writing-next, writing-end}
 use Rattle.ffi.proofs.listing.write_runs.Goals as goal
 
 pub loop-i-init : goal.loop-i-init

@@ -1,7 +1,5 @@
 use Prim.Native.Nat.{◌-◌}
-use native.Mathlib.Omega.{arith}
-use borrow.Author.Rules.{rules}
-use Rattle.ffi.proofs.Writings.{Writing, writing_start, fewer, writing-next, writing-end}
+use Rattle.ffi.proofs.Writings.{Writing}
 use Rattle.ffi.proofs.listing.write_runs.Given as goal
 
 abbrev pub invariant-loop-i : goal.invariant-loop-i

@@ -1,9 +1,7 @@
 -- `ffi::naming::copy_front` meets its contract. Assumes nothing.
-use Prim.Native.Nat.{◌-◌, ◌≤◌}
 use native.Mathlib.Omega.{arith}
-use mathlib.Core.Path.{◌≡◌, refl, sym, ◌∙◌}
-use lib.ListN.{length, drop, length-set}
-use lib.Seq.{sets}
+use mathlib.Core.Path.{refl, sym, ◌∙◌}
+use lib.ListN.{length-set}
 use Rattle.ffi.proofs.Fronts.{front-is, front-more, front-end}
 use Rattle.ffi.proofs.naming.copy_front.Goals as goal
 

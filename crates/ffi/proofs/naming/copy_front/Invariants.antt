@@ -1,9 +1,7 @@
 use Prim.Native.Nat.{◌-◌, ◌≤◌}
-use native.Mathlib.Omega.{arith}
-use mathlib.Core.Path.{◌≡◌, refl, sym, ◌∙◌}
-use lib.ListN.{length, drop, length-set}
+use mathlib.Core.Path.{◌≡◌}
+use lib.ListN.{length, drop}
 use lib.Seq.{sets}
-use Rattle.ffi.proofs.Fronts.{front-is, front-more, front-end}
 use Rattle.ffi.proofs.naming.copy_front.Given as goal
 
 abbrev pub invariant-loop-i : goal.invariant-loop-i

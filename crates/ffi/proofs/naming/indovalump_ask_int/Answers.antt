@@ -1,7 +1,6 @@
 -- `ffi::naming::indovalump_ask_int` meets its contract. Assumes nothing.
 use mathlib.Core.Path.{sym, ◌∙◌}
 use mir.Facts.{to_z-of_z}
-use borrow.Author.Rules.{rules}
 use Rattle.ffi.proofs.naming.indovalump_ask_int.Goals as goal
 
 pub returns : goal.returns

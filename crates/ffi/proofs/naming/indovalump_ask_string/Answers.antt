@@ -1,6 +1,5 @@
 -- `ffi::naming::indovalump_ask_string` meets its contract. Assumes nothing.
 use mathlib.Core.Path.{sym, ◌∙◌}
-use borrow.Author.Rules.{rules}
 use Rattle.ffi.proofs.naming.indovalump_ask_string.Goals as goal
 
 pub returns : goal.returns

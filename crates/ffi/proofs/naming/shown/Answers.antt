@@ -5,7 +5,6 @@ use mathlib.Core.List.{List}
 use lib.Seq.{take-length}
 use borrow.Author.Tests.{lt-leb, le-leb}
 use Rattle.events.specs.Given.{at_front}
-use borrow.Author.Rules.{rules}
 use Rattle.ffi.proofs.naming.shown.Goals as goal
 
 pub returns-then-bytes-out : goal.returns-then-bytes-out

@@ -1,6 +1,5 @@
 -- `ffi::reading::indovalump_count_runs` meets its contract. Assumes nothing.
 use mathlib.Core.Path.{sym}
-use borrow.Author.Rules.{rules}
 use Rattle.ffi.proofs.reading.indovalump_count_runs.Goals as goal
 
 pub returns : goal.returns

@@ -1,6 +1,5 @@
 -- `ffi::reading::indovalump_len` meets its contract. Assumes nothing.
 use mathlib.Core.Path.{sym}
-use borrow.Author.Rules.{rules}
 use Rattle.ffi.proofs.reading.indovalump_len.Goals as goal
 
 pub returns : goal.returns

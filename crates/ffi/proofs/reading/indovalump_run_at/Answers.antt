@@ -1,7 +1,6 @@
 -- `ffi::reading::indovalump_run_at` meets its contract. Assumes nothing.
 use mathlib.Core.Path.{sym}
 use Rattle.ffi.proofs.Saids.{said_here, said-nothing, said-broken}
-use borrow.Author.Rules.{rules}
 use Rattle.ffi.proofs.reading.indovalump_run_at.Goals as goal
 
 pub returns-in-Here : goal.returns-in-Here

@@ -1,7 +1,6 @@
 -- `ffi::telling::carry_words` meets its contract. Assumes nothing.
 use mathlib.Core.Path.{refl, sym}
 use Rattle.ffi.specs.Deltas.{carry_words}
-use borrow.Author.Rules.{rules}
 use Rattle.ffi.proofs.telling.carry_words.Goals as goal
 
 pub returns-then-read : goal.returns-then-read

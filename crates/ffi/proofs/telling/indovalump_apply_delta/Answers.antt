@@ -1,7 +1,6 @@
 -- `ffi::telling::indovalump_apply_delta` meets its contract. Assumes nothing.
 use mathlib.Core.Path.{sym}
 use Rattle.ffi.proofs.Lefts.{left_is}
-use borrow.Author.Rules.{rules}
 use Rattle.ffi.proofs.telling.indovalump_apply_delta.Goals as goal
 
 pub returns : goal.returns

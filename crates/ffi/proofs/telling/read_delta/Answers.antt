@@ -2,7 +2,6 @@
 use mathlib.Core.Path.{refl}
 use borrow.Author.Tests.{lt-ltb, le-ltb, ne_eqb, eq-eqb}
 use Rattle.ffi.specs.Deltas.{delta_in}
-use borrow.Author.Rules.{rules}
 use Rattle.ffi.proofs.telling.read_delta.Goals as goal
 
 pub returns-then-words-gt2048 : goal.returns-then-words-gt2048

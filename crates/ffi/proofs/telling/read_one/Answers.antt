@@ -1,7 +1,6 @@
 -- `ffi::telling::read_one` meets its contract. Assumes nothing.
 use mathlib.Core.Path.{refl, sym}
 use Rattle.ffi.specs.Deltas.{read_one}
-use borrow.Author.Rules.{rules}
 use Rattle.ffi.proofs.telling.read_one.Goals as goal
 
 pub returns-in-Is : goal.returns-in-Is

@@ -1,9 +1,8 @@
 -- `ffi::telling::read_ops` meets its contract. Assumes nothing.
-use Prim.Native.Nat.{ℕ, ◌-◌, ◌≤◌}
+use Prim.Native.Nat.{ℕ}
 use native.Mathlib.Numerals.{add-one}
 use native.Mathlib.Omega.{arith}
 use mathlib.Core.Path.{◌≡◌, refl, sym, ap, ◌∙◌}
-use borrow.Author.Rules.{rules}
 use Rattle.ffi.specs.Deltas.{read_ops}
 use Rattle.ffi.proofs.telling.read_ops.Goals as goal
 

@@ -1,6 +1,5 @@
 -- `sheet::append::append_accepted` meets its contract. Assumes nothing.
 use borrow.Author.Tests.{eq-eqb, ne_eqb}
-use borrow.Author.Rules.{rules}
 use Rattle.sheet.proofs.append.append_accepted.Goals as goal
 
 pub returns-then-refusal-eq0 : goal.returns-then-refusal-eq0

@@ -2,7 +2,6 @@
 use native.Mathlib.Omega.{arith}
 use mathlib.Core.Path.{◌≡◌, refl, sym, subst⁻¹, ◌∙◌}
 use mathlib.Core.Bool.{true}
-use borrow.Author.Tests.{not-true, not-false}
 use Rattle.attrs.specs.Packed.{says}
 use Rattle.rules.specs.Calls.{Call}
 use Rattle.rules.specs.Rulings.{ruling}
@@ -13,7 +12,6 @@ use Rattle.changes.proofs.Works.{granted_by}
 use Rattle.changes.proofs.Sounds.{sound-loads}
 use Rattle.changes.proofs.Calls.{carry_unsound, carry-faulty, carry-edited}
 use Rattle.sheet.proofs.Inserts.{embed_ruled, embed-ruled, embed_ready}
-use borrow.Author.Rules.{rules}
 use Rattle.sheet.proofs.insert.put_embed.Goals as goal
 use Rattle.sheet.proofs.insert.put_embed.Goals.{Else-not-sound, Start}
 

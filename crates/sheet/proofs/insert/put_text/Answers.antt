@@ -5,7 +5,6 @@ use mathlib.Core.Path.{◌≡◌, sym, subst⁻¹, ◌∙◌}
 use mathlib.Core.Bool.{true}
 use mathlib.Core.List.{◌++◌}
 use lib.ListN.{length, take}
-use borrow.Author.Tests.{not-true, not-false}
 use Rattle.attrs.specs.Packed.{says}
 use Rattle.rules.specs.Calls.{Call}
 use Rattle.rules.specs.Rulings.{ruling}
@@ -17,7 +16,6 @@ use Rattle.changes.proofs.Works.{granted_by}
 use Rattle.changes.proofs.Sounds.{sound-loads}
 use Rattle.changes.proofs.Calls.{carry_unsound, carry_quiet, carry-faulty, carry-crowded, carry-granted}
 use Rattle.sheet.proofs.Inserts.{text_ruled, text-ruled, text_quiet, text-long, text_ready}
-use borrow.Author.Rules.{rules}
 use Rattle.sheet.proofs.insert.put_text.Goals as goal
 use Rattle.sheet.proofs.insert.put_text.Goals.{Else-chunk-eq0, Else-not-sound, Start}
 

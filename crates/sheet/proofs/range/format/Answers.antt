@@ -1,14 +1,12 @@
 -- `sheet::range::format` meets its contract: each way by its law. Assumes nothing.
 use mathlib.Core.Path.{◌≡◌, refl, sym, ◌∙◌}
 use mathlib.Core.Bool.{true}
-use borrow.Author.Tests.{not-true, not-false}
 use Rattle.attrs.specs.Packed.{says}
 use Rattle.rules.specs.Calls.{Call, format_range}
 use Rattle.layout.specs.Memory.{sound_of}
 use Rattle.changes.specs.Changes.{move_of}
 use Rattle.changes.proofs.Sounds.{sound-loads}
 use Rattle.changes.proofs.Calls.{carry_unsound, carry-faulty, carry-edited}
-use borrow.Author.Rules.{rules}
 use Rattle.sheet.proofs.range.format.Goals as goal
 use Rattle.sheet.proofs.range.format.Goals.{Else-not-sound, Start}
 

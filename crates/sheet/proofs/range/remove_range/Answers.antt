@@ -9,7 +9,6 @@ use Rattle.changes.specs.Changes.{move_of}
 use Rattle.changes.proofs.Sounds.{sound-loads}
 use Rattle.changes.proofs.Calls.{carry_unsound, carry-faulty, carry_quiet, carry-edited}
 use Rattle.refusals.proofs.Ranges.{remove_quiet, remove-ruled}
-use borrow.Author.Rules.{rules}
 use Rattle.sheet.proofs.range.remove_range.Goals as goal
 use Rattle.sheet.proofs.range.remove_range.Goals.{Else-not-m, Start}
 
