@@ -1,10 +1,10 @@
 -- `changes::append::append` meets its contract. The invariant: the first i units are copied. Assumes nothing.
-use Prim.Native.Nat.{ℕ, ◌+◌, ◌-◌, ◌≤◌}
+use Prim.Native.Nat.{ℕ, ◌+◌}
 use native.Mathlib.Numerals.{add-one}
 use native.Mathlib.Omega.{arith}
-use mathlib.Core.Path.{◌≡◌, refl, sym, ap, ◌∙◌}
+use mathlib.Core.Path.{refl, sym, ap, ◌∙◌}
 use mathlib.Core.List.{List}
-use lib.ListN.{length, get_or, set, length-set}
+use lib.ListN.{get_or, set, length-set}
 use lib.Seq.{paste, paste-zero, paste-suc}
 use Rattle.changes.proofs.Appends.{pasted-all}
 use Rattle.changes.proofs.append.append.Goals as goal

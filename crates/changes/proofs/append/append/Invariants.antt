@@ -1,11 +1,7 @@
-use Prim.Native.Nat.{ℕ, ◌+◌, ◌-◌, ◌≤◌}
-use native.Mathlib.Numerals.{add-one}
-use native.Mathlib.Omega.{arith}
-use mathlib.Core.Path.{◌≡◌, refl, sym, ap, ◌∙◌}
-use mathlib.Core.List.{List}
-use lib.ListN.{length, get_or, set, length-set}
-use lib.Seq.{paste, paste-zero, paste-suc}
-use Rattle.changes.proofs.Appends.{pasted-all}
+use Prim.Native.Nat.{◌-◌, ◌≤◌}
+use mathlib.Core.Path.{◌≡◌}
+use lib.ListN.{length}
+use lib.Seq.{paste}
 use Rattle.changes.proofs.append.append.Given as goal
 
 abbrev pub invariant-loop-i : goal.invariant-loop-i

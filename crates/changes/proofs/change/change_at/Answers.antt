@@ -3,7 +3,6 @@ use mathlib.Core.Path.{subst}
 use native.Mathlib.Omega.{arith}
 use Rattle.changes.specs.Changes.{move_of, Ready}
 use Rattle.changes.proofs.Works.{changed}
-use borrow.Author.Rules.{rules}
 use Rattle.changes.proofs.change.change_at.Goals as goal
 
 pub insert_plain-requires : goal.insert_plain-requires

@@ -6,7 +6,6 @@ use Rattle.marks.proofs.Rooms.{carried-room}
 use Rattle.attrs.specs.Packed.{says}
 use Rattle.changes.specs.Changes.{move_of}
 use Rattle.changes.proofs.Works.{worked}
-use borrow.Author.Rules.{rules}
 use Rattle.changes.proofs.change.change_by_index.Goals as goal
 
 pub change_at-requires : goal.change_at-requires

@@ -4,7 +4,6 @@ use mathlib.Core.Path.{refl}
 use Rattle.attrs.specs.Packed.{says}
 use Rattle.changes.specs.Changes.{move_of}
 use Rattle.changes.proofs.Works.{load_is, worked_loaded, granted-not, granted-is}
-use borrow.Author.Rules.{rules}
 use Rattle.changes.proofs.frame.edit.Goals as goal
 
 pub change_by_index-new-requires : goal.change_by_index-new-requires
