@@ -1,9 +1,7 @@
 -- `runs::calls::count_runs` meets its contract. Assumes nothing.
 use mathlib.Core.Path.{sym, ◌∙◌}
 use mathlib.Core.Bool.{true}
-use borrow.Author.Tests.{not-true, not-false}
 use Rattle.runs.proofs.Tallies.{count-broken, begun, count-is}
-use borrow.Author.Rules.{rules}
 use Rattle.runs.proofs.calls.count_runs.Goals as goal
 
 pub returns-then-not-sound : goal.returns-then-not-sound

@@ -4,7 +4,7 @@ use native.Mathlib.Omega.{arith}
 use mathlib.Core.Path.{◌≡◌, refl, sym, ap, ◌∙◌}
 use lib.ListN.{drop}
 use borrow.Author.Tests.{not-true, not-false}
-use Rattle.cursors.specs.Cursors.{Stands, found}
+use Rattle.cursors.specs.Cursors.{found}
 use Rattle.runs.proofs.Tallies.{drop_more, drop-none}
 use Rattle.runs.proofs.calls.nth.Goals as goal
 

@@ -1,10 +1,6 @@
-use Prim.Native.Nat.{ℕ}
-use native.Mathlib.Omega.{arith}
-use mathlib.Core.Path.{◌≡◌, refl, sym, ap, ◌∙◌}
+use mathlib.Core.Path.{◌≡◌}
 use lib.ListN.{drop}
-use borrow.Author.Tests.{not-true, not-false}
 use Rattle.cursors.specs.Cursors.{Stands, found}
-use Rattle.runs.proofs.Tallies.{drop_more, drop-none}
 use Rattle.runs.proofs.calls.nth.Given as goal
 
 abbrev pub invariant-loop-k : goal.invariant-loop-k

@@ -1,6 +1,5 @@
 -- `runs::calls::plan` meets its contract. Assumes nothing.
 use Rattle.runs.proofs.Tallies.{plan-over, plan-fits}
-use borrow.Author.Rules.{rules}
 use Rattle.runs.proofs.calls.plan.Goals as goal
 
 pub returns-then-a-room : goal.returns-then-a-room

@@ -3,7 +3,6 @@ use mathlib.Core.Path.{sym, ◌∙◌}
 use mathlib.Core.Bool.{true}
 use borrow.Author.Tests.{not-true, not-false}
 use Rattle.runs.proofs.Tallies.{run-broken, begun, run_none, run-here}
-use borrow.Author.Rules.{rules}
 use Rattle.runs.proofs.calls.run_at.Goals as goal
 
 pub returns-then-not-sound : goal.returns-then-not-sound

@@ -1,9 +1,8 @@
 -- `runs::calls::tally` meets its contract. Assumes nothing.
-use Prim.Native.Nat.{◌+◌, ◌≤◌}
 use native.Mathlib.Omega.{arith}
-use mathlib.Core.Path.{◌≡◌, ap}
+use mathlib.Core.Path.{ap}
 use lib.ListN.{length}
-use Rattle.cursors.specs.Cursors.{Stands, found, one}
+use Rattle.cursors.specs.Cursors.{one}
 use Rattle.runs.proofs.Tallies.{tally-more, tally-none}
 use Rattle.runs.proofs.calls.tally.Goals as goal
 

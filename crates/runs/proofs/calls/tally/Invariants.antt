@@ -1,9 +1,7 @@
 use Prim.Native.Nat.{◌+◌, ◌≤◌}
-use native.Mathlib.Omega.{arith}
-use mathlib.Core.Path.{◌≡◌, ap}
+use mathlib.Core.Path.{◌≡◌}
 use lib.ListN.{length}
 use Rattle.cursors.specs.Cursors.{Stands, found, one}
-use Rattle.runs.proofs.Tallies.{tally-more, tally-none}
 use Rattle.runs.proofs.calls.tally.Given as goal
 
 abbrev pub invariant-loop-c : goal.invariant-loop-c

@@ -1,11 +1,8 @@
 -- `runs::fill::fill_runs` meets its contract. Assumes nothing.
-use Rattle.std.proofs.Common.{◌≡◌, ◌+◌, ◌<◌, ◌≤◌, length, refl, sym, ap, ◌∙◌, arith, rules}
-use Rattle.cursors.specs.declared.run.Run.{Run}
+use Rattle.std.proofs.Common.{◌≡◌, ◌<◌, length, refl, ap, arith}
 use Rattle.runs.specs.declared.calls.Count.{Count}
-use Rattle.runs.specs.Answers.{written, records_in}
 use Rattle.runs.proofs.Tallies.{planned-within}
-use Rattle.runs.proofs.Fronts.{length-written}
-use Rattle.runs.proofs.Fills.{to_write, plan-most, Filling, filling-start, filling-next, fill_more}
+use Rattle.runs.proofs.Fills.{to_write, Filling, filling-start, filling-next, fill_more}
 use Rattle.runs.proofs.fill.fill_runs.Goals as goal
 use Rattle.runs.proofs.fill.fill_runs.Goals.{In-loop-i}
 
