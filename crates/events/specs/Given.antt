@@ -1,5 +1,5 @@
 -- What an event call gives: its answer, and what it writes at the front of the lent numbers and units.
-use Rattle.std.specs.Prelude.{ℕ, ◌+◌, ◌*◌, Bool, cond, ◌&&◌, List, [], ◌++◌, leb, length, drop}
+use Rattle.std.specs.Prelude.{ℕ, ◌*◌, Bool, cond, ◌&&◌, List, [], ◌++◌, leb, length, drop}
 use Rattle.rules.specs.Reading.{Seen}
 use Rattle.rules.specs.Event.{event, told_units}
 use Rattle.layout.specs.declared.head.Head.{Head}

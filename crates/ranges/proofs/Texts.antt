@@ -9,7 +9,7 @@ use mathlib.Core.List.{List, [], ◌∷◌, ◌++◌, map}
 use lib.ListN.{length, get_or, drop, set, length-append, get_or-append}
 use lib.Seq.{drop-cons, drop-append-add, drop-drop, drop-nil}
 use Rattle.rules.specs.Sheet.{What, text, embed, mark, width, Item}
-use Rattle.rules.specs.Reading.{Glyph, unit, units_of, glyphs, live, seen_glyphs}
+use Rattle.rules.specs.Reading.{Glyph, units_of, glyphs, live, seen_glyphs}
 use Rattle.rules.specs.Sound.{Fits, AllFit}
 use Rattle.rules.specs.Calls.{unit_at, visible_units}
 use Rattle.layout.specs.declared.word.Content.{Content}

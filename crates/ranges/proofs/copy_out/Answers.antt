@@ -1,10 +1,10 @@
 -- `ranges::copy_out` meets its contract. Assumes nothing.
-use Prim.Native.Nat.{ℕ, ◌-◌, ◌≤◌}
+use Prim.Native.Nat.{ℕ}
 use native.Mathlib.Omega.{arith}
 use mathlib.Core.Path.{◌≡◌, refl, ap, ◌∙◌}
-use lib.ListN.{length, drop, length-set}
+use lib.ListN.{length-set}
 use Rattle.runs.specs.Answers.{written}
-use Rattle.ranges.specs.Texts.{showing, Reads}
+use Rattle.ranges.specs.Texts.{showing}
 use Rattle.ranges.proofs.Texts.{copy-left, copy_more}
 use Rattle.ranges.proofs.copy_out.Goals as goal
 

@@ -1,10 +1,8 @@
-use Prim.Native.Nat.{ℕ, ◌-◌, ◌≤◌}
-use native.Mathlib.Omega.{arith}
-use mathlib.Core.Path.{◌≡◌, refl, ap, ◌∙◌}
-use lib.ListN.{length, drop, length-set}
+use Prim.Native.Nat.{◌-◌, ◌≤◌}
+use mathlib.Core.Path.{◌≡◌}
+use lib.ListN.{length, drop}
 use Rattle.runs.specs.Answers.{written}
 use Rattle.ranges.specs.Texts.{showing, Reads}
-use Rattle.ranges.proofs.Texts.{copy-left, copy_more}
 use Rattle.ranges.proofs.copy_out.Given as goal
 
 abbrev pub invariant-loop-i : goal.invariant-loop-i

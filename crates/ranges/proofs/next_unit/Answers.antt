@@ -4,9 +4,7 @@ use Prim.Native.Nat.{◌<◌}
 use native.Mathlib.Omega.{arith}
 use mathlib.Core.Path.{◌≡◌, refl, ◌∙◌}
 use lib.ListN.{length}
-use borrow.Author.Rules.{rules}
-use Rattle.ranges.specs.Texts.{showing, Reads}
-use Rattle.ranges.proofs.Texts.{place, width_of, reads_at, reads_none, reads-below, reads-lies, reads-next, shows-none, shows-pass, shows-here, given-here, given-none}
+use Rattle.ranges.proofs.Texts.{width_of, reads_at, reads_none, reads-below, reads-lies, reads-next, shows-none, shows-pass, shows-here, given-here, given-none}
 use Rattle.ranges.proofs.next_unit.Goals as goal
 use Rattle.ranges.proofs.next_unit.Goals.{In-loop-todo}
 

@@ -1,11 +1,6 @@
-use Rattle.layout.specs.Chain.{item_at}
-use Prim.Native.Nat.{◌<◌}
-use native.Mathlib.Omega.{arith}
-use mathlib.Core.Path.{◌≡◌, refl, ◌∙◌}
-use lib.ListN.{length}
-use borrow.Author.Rules.{rules}
+use mathlib.Core.Path.{◌≡◌}
 use Rattle.ranges.specs.Texts.{showing, Reads}
-use Rattle.ranges.proofs.Texts.{place, width_of, reads_at, reads_none, reads-below, reads-lies, reads-next, shows-none, shows-pass, shows-here, given-here, given-none}
+use Rattle.ranges.proofs.Texts.{place}
 use Rattle.ranges.proofs.next_unit.Given as goal
 
 abbrev pub invariant-loop-todo : goal.invariant-loop-todo

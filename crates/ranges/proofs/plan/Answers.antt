@@ -3,7 +3,6 @@ use Prim.Native.Nat.{ℕ, ◌-◌, min}
 use mathlib.Core.Path.{◌≡◌, sym, ap, ◌∙◌}
 use mathlib.Core.Bool.{true}
 use lib.ListN.{length}
-use borrow.Author.Rules.{rules}
 use Rattle.rules.specs.Reading.{visible}
 use Rattle.layout.specs.Memory.{list_of, sound_of}
 use Rattle.ranges.specs.Texts.{text_in}

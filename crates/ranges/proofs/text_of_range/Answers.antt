@@ -3,7 +3,6 @@ use Prim.Native.Nat.{◌≤◌}
 use mathlib.Core.Path.{◌≡◌}
 use mathlib.Core.Bool.{true}
 use lib.ListN.{length}
-use borrow.Author.Rules.{rules}
 use Rattle.layout.specs.Memory.{sound_of}
 use Rattle.ranges.specs.Texts.{text_in}
 use Rattle.ranges.proofs.Ranges.{reads-start, text-within, copied_none, granted, copied-fits}

@@ -2,7 +2,6 @@
 use native.Mathlib.Omega.{arith}
 use Rattle.ranges.specs.Texts.{unit_in}
 use Rattle.ranges.proofs.Texts.{in-piece}
-use borrow.Author.Rules.{rules}
 use Rattle.ranges.proofs.unit_in.Goals as goal
 
 pub overflow_add-i : goal.overflow_add-i

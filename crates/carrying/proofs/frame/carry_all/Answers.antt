@@ -3,7 +3,6 @@ use mathlib.Core.Path.{refl}
 use Rattle.changes.proofs.Works.{load_is, granted-is}
 use Rattle.carrying.specs.Turns.{laid, given}
 use Rattle.carrying.proofs.Frames.{stands-first, tried-all, tried_not}
-use borrow.Author.Rules.{rules}
 use Rattle.carrying.proofs.frame.carry_all.Goals as goal
 
 pub carry_out-new-requires : goal.carry_out-new-requires

@@ -1,13 +1,11 @@
 -- `carrying::turns::carry_out` meets its contract: what is left to do from the place reached gives what there was to do at first. Assumes nothing.
-use Prim.Native.Nat.{ℕ, suc, ◌+◌, ◌-◌}
+use Prim.Native.Nat.{ℕ, suc, ◌+◌}
 use native.Mathlib.Omega.{arith}
 use mathlib.Core.Path.{◌≡◌, sym, ap, ◌∙◌}
 use mathlib.Core.List.{◌∷◌}
 use lib.ListN.{length, get_or, drop}
-use Rattle.rules.specs.Delta.{carry_out}
-use Rattle.arena.specs.Places.{placed}
-use Rattle.carrying.specs.Turns.{laid, given}
-use Rattle.carrying.proofs.Carrying.{length_mapped, unread, Under, under-start, under_next, under-long, under-done, next-room, given-length, given-at}
+use Rattle.carrying.specs.Turns.{given}
+use Rattle.carrying.proofs.Carrying.{length_mapped, unread, under-start, under_next, under-long, under-done, next-room, given-length, given-at}
 use borrow.Author.Rules.{rules}
 use Rattle.carrying.proofs.turns.carry_out.Goals as goal
 use Rattle.carrying.proofs.turns.carry_out.Goals.{In-loop-i, Start}

@@ -1,13 +1,8 @@
-use Prim.Native.Nat.{ℕ, suc, ◌+◌, ◌-◌}
-use native.Mathlib.Omega.{arith}
-use mathlib.Core.Path.{◌≡◌, sym, ap, ◌∙◌}
-use mathlib.Core.List.{◌∷◌}
-use lib.ListN.{length, get_or, drop}
+use Prim.Native.Nat.{◌-◌}
 use Rattle.rules.specs.Delta.{carry_out}
 use Rattle.arena.specs.Places.{placed}
 use Rattle.carrying.specs.Turns.{laid, given}
-use Rattle.carrying.proofs.Carrying.{length_mapped, unread, Under, under-start, under_next, under-long, under-done, next-room, given-length, given-at}
-use borrow.Author.Rules.{rules}
+use Rattle.carrying.proofs.Carrying.{Under}
 use Rattle.carrying.proofs.turns.carry_out.Given as goal
 
 abbrev pub invariant-loop-i : goal.invariant-loop-i

@@ -2,7 +2,6 @@
 use native.Mathlib.Omega.{arith}
 use Rattle.attrs.specs.Packed.{says}
 use Rattle.carrying.proofs.Carrying.{embed-put}
-use borrow.Author.Rules.{rules}
 use Rattle.carrying.proofs.turns.insert_embed.Goals as goal
 
 pub insert-requires : goal.insert-requires

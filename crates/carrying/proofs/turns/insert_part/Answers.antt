@@ -1,6 +1,5 @@
 -- `carrying::turns::insert_part` meets its contract: a text or an embed. Assumes nothing.
 use Rattle.carrying.proofs.Carrying.{by_part, part_room}
-use borrow.Author.Rules.{rules}
 use Rattle.carrying.proofs.turns.insert_part.Goals as goal
 
 pub insert_text-requires : goal.insert_text-requires

@@ -1,7 +1,6 @@
 -- `carrying::turns::insert_text` meets its contract. Assumes nothing.
 use native.Mathlib.Omega.{arith}
 use Rattle.carrying.proofs.Carrying.{text-none, text-some}
-use borrow.Author.Rules.{rules}
 use Rattle.carrying.proofs.turns.insert_text.Goals as goal
 
 pub returns-then-len-eq0 : goal.returns-then-len-eq0

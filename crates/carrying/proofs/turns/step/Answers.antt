@@ -2,7 +2,6 @@
 use native.Mathlib.Omega.{arith}
 use Rattle.carrying.specs.Turns.{rule_of}
 use Rattle.carrying.proofs.Carrying.{by-op, op_room}
-use borrow.Author.Rules.{rules}
 use Rattle.carrying.proofs.turns.step.Goals as goal
 
 pub insert_part-requires : goal.insert_part-requires

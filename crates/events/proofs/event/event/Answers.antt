@@ -1,9 +1,7 @@
 -- `events::event::event` meets its contract. Assumes nothing.
-use borrow.Author.Rules.{rules}
 use native.Mathlib.Omega.{arith}
 use mathlib.Core.Path.{refl, sym, ap₂, ◌∙◌}
 use Prim.Native.Nat.{ℕ}
-use borrow.Author.Tests.{not-true, not-false}
 use Rattle.layout.proofs.Soundness.{sound-parts}
 use Rattle.events.proofs.Events.{walkable, given-broken, same, ops-is, units-is, no_words, no-units, all-fits, wrote, text-room, filled}
 use Rattle.events.proofs.event.event.Goals as goal

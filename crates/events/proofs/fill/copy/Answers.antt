@@ -1,11 +1,8 @@
 -- `events::fill::copy` meets its contract. Assumes nothing.
 use native.Mathlib.Omega.{arith}
-use Prim.Native.Nat.{◌+◌, ◌-◌, ◌≤◌}
-use mathlib.Core.Path.{◌≡◌, refl, sym, ◌∙◌}
-use lib.ListN.{length, length-set}
-use lib.Seq.{sets}
-use Rattle.rules.specs.Reading.{units_of}
-use Rattle.events.specs.Told.{units_for}
+use Prim.Native.Nat.{◌+◌, ◌-◌}
+use mathlib.Core.Path.{refl, sym, ◌∙◌}
+use lib.ListN.{length-set}
 use Rattle.events.proofs.Texts.{copy_start, copy_step, copy-end}
 use Rattle.events.proofs.fill.copy.Goals as goal
 

@@ -1,11 +1,9 @@
-use native.Mathlib.Omega.{arith}
 use Prim.Native.Nat.{◌+◌, ◌-◌, ◌≤◌}
-use mathlib.Core.Path.{◌≡◌, refl, sym, ◌∙◌}
-use lib.ListN.{length, length-set}
+use mathlib.Core.Path.{◌≡◌}
+use lib.ListN.{length}
 use lib.Seq.{sets}
 use Rattle.rules.specs.Reading.{units_of}
 use Rattle.events.specs.Told.{units_for}
-use Rattle.events.proofs.Texts.{copy_start, copy_step, copy-end}
 use Rattle.events.proofs.fill.copy.Given as goal
 
 abbrev pub invariant-loop-j : goal.invariant-loop-j

@@ -1,11 +1,10 @@
 -- `events::fill::fill` meets its contract. Assumes nothing.
 use native.Mathlib.Omega.{arith}
-use borrow.Author.Rules.{rules}
 use Prim.Native.Nat.{◌<◌}
 use mathlib.Core.Path.{◌≡◌, sym, ◌∙◌}
 use lib.ListN.{length}
 use Rattle.layout.proofs.Links.{walks-lt}
-use Rattle.events.proofs.Texts.{Filling, filling-start, filling_step, piece-here, fill_end}
+use Rattle.events.proofs.Texts.{filling-start, filling_step, piece-here, fill_end}
 use Rattle.events.proofs.fill.fill.Goals as goal
 use Rattle.events.proofs.fill.fill.Goals.{In-loop-k}
 

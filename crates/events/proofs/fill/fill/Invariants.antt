@@ -1,10 +1,4 @@
-use native.Mathlib.Omega.{arith}
-use borrow.Author.Rules.{rules}
-use Prim.Native.Nat.{◌<◌}
-use mathlib.Core.Path.{◌≡◌, sym, ◌∙◌}
-use lib.ListN.{length}
-use Rattle.layout.proofs.Links.{walks-lt}
-use Rattle.events.proofs.Texts.{Filling, filling-start, filling_step, piece-here, fill_end}
+use Rattle.events.proofs.Texts.{Filling}
 use Rattle.events.proofs.fill.fill.Given as goal
 
 abbrev pub invariant-loop-k : goal.invariant-loop-k

@@ -1,5 +1,4 @@
 -- `events::fill::new_text` meets its contract. Assumes nothing.
-use borrow.Author.Rules.{rules}
 use borrow.Author.Tests.{not-true, not-false}
 use Rattle.events.proofs.fill.new_text.Goals as goal
 

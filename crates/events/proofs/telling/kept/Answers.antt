@@ -1,5 +1,4 @@
 -- `events::telling::kept` meets its contract. Assumes nothing.
-use borrow.Author.Rules.{rules}
 use mathlib.Core.Path.{sym, ◌∙◌}
 use Rattle.events.proofs.telling.kept.Goals as goal
 

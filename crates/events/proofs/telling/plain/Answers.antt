@@ -1,5 +1,4 @@
 -- `events::telling::plain` meets its contract. Assumes nothing.
-use borrow.Author.Rules.{rules}
 use Rattle.events.proofs.telling.plain.Goals as goal
 
 pub returns-in-Retain : goal.returns-in-Retain

@@ -1,5 +1,4 @@
 -- `events::telling::tell` meets its contract. Assumes nothing.
-use borrow.Author.Rules.{rules}
 use Rattle.events.specs.Told.{tell_all, ops_in}
 use Rattle.events.proofs.telling.tell.Goals as goal
 

@@ -1,5 +1,4 @@
 -- `events::telling::write` meets its contract. Assumes nothing.
-use borrow.Author.Rules.{rules}
 use borrow.Author.Tests.{lt-ltb, le-ltb}
 use Rattle.events.proofs.telling.write.Goals as goal
 

@@ -5,8 +5,7 @@ use mathlib.Core.Path.{◌≡◌, refl, ap, ◌∙◌}
 use lib.ListN.{length}
 use Rattle.layout.proofs.Links.{walks-lt}
 use Rattle.assembling.proofs.Pendings.{inserted-le}
-use Rattle.events.proofs.Going.{Walking, walking_start, walking-step, walking-end, wide, told-one, told-long}
-use borrow.Author.Rules.{rules}
+use Rattle.events.proofs.Going.{walking_start, walking-step, walking-end, wide, told-one, told-long}
 use Rattle.events.proofs.walk.walk.Goals as goal
 use Rattle.events.proofs.walk.walk.Goals.{In-loop-k}
 

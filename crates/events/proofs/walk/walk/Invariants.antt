@@ -1,11 +1,4 @@
-use native.Mathlib.Omega.{arith}
-use Prim.Native.Nat.{ℕ, ◌+◌, ◌<◌}
-use mathlib.Core.Path.{◌≡◌, refl, ap, ◌∙◌}
-use lib.ListN.{length}
-use Rattle.layout.proofs.Links.{walks-lt}
-use Rattle.assembling.proofs.Pendings.{inserted-le}
-use Rattle.events.proofs.Going.{Walking, walking_start, walking-step, walking-end, wide, told-one, told-long}
-use borrow.Author.Rules.{rules}
+use Rattle.events.proofs.Going.{Walking}
 use Rattle.events.proofs.walk.walk.Given as goal
 
 abbrev pub invariant-loop-k : goal.invariant-loop-k
