@@ -1,4 +1,4 @@
-use Rattle.std.proofs.Common.{sym, arith, length-take-le, rules}
+use Rattle.std.proofs.Common.{sym, arith, length-take-le}
 use Rattle.calls.proofs.answer.show_text.Goals as goal
 
 pub slice_bounds-say_letters-end : goal.slice_bounds-say_letters-end

@@ -1,4 +1,4 @@
-use Rattle.std.proofs.Common.{sym, arith, length-take-le, rules}
+use Rattle.std.proofs.Common.{sym, arith, length-take-le}
 use Rattle.calls.proofs.delta.delta_line.Goals as goal
 
 pub slice_bounds-applied-end : goal.slice_bounds-applied-end

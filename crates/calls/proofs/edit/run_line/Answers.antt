@@ -1,4 +1,4 @@
-use Rattle.std.proofs.Common.{sym, arith, length-take-le, rules}
+use Rattle.std.proofs.Common.{sym, arith, length-take-le}
 use Rattle.calls.proofs.edit.run_line.Goals as goal
 
 pub slice_bounds-edited-end-in_default : goal.slice_bounds-edited-end-in_default

@@ -1,5 +1,4 @@
-use Rattle.std.proofs.Common.{◌≡◌, length, refl, arith, rules}
-use Rattle.calls.specs.Waits.{Waits}
+use Rattle.std.proofs.Common.{refl, arith}
 use Rattle.calls.proofs.input.all_lines.Goals as goal
 
 pub loop-turns-init : goal.loop-turns-init

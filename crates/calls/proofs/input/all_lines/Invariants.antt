@@ -1,4 +1,4 @@
-use Rattle.std.proofs.Common.{◌≡◌, length, refl, arith, rules}
+use Rattle.std.proofs.Common.{◌≡◌, length}
 use Rattle.calls.specs.Waits.{Waits}
 use Rattle.calls.proofs.input.all_lines.Given as goal
 

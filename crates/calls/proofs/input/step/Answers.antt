@@ -1,4 +1,4 @@
-use Rattle.std.proofs.Common.{sym, ◌∙◌, rules}
+use Rattle.std.proofs.Common.{sym, ◌∙◌}
 use Rattle.words.proofs.Moving.{whole-within}
 use Rattle.calls.proofs.input.step.Goals as goal
 

@@ -1,4 +1,4 @@
-use Rattle.std.proofs.Common.{sym, arith, length-take-le, rules}
+use Rattle.std.proofs.Common.{sym, arith, length-take-le}
 use Rattle.calls.proofs.say.add_unit.Goals as goal
 
 pub slice_bounds-write_all-end-2 : goal.slice_bounds-write_all-end-2

@@ -1,4 +1,4 @@
-use Rattle.std.proofs.Common.{◌≡◌, ◌-◌, ◌≤◌, length, sym, refl, arith, length-take-le}
+use Rattle.std.proofs.Common.{sym, refl, arith, length-take-le}
 use Rattle.calls.proofs.say.add_units.Goals as goal
 
 pub loop-i-init : goal.loop-i-init

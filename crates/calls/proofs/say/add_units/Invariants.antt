@@ -1,4 +1,4 @@
-use Rattle.std.proofs.Common.{◌≡◌, ◌-◌, ◌≤◌, length, sym, refl, arith, length-take-le}
+use Rattle.std.proofs.Common.{◌≡◌, ◌-◌, ◌≤◌, length}
 use Rattle.calls.proofs.say.add_units.Given as goal
 
 abbrev pub invariant-loop-i : goal.invariant-loop-i

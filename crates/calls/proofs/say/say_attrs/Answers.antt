@@ -1,4 +1,4 @@
-use Rattle.std.proofs.Common.{sym, length-take-le, rules}
+use Rattle.std.proofs.Common.{sym, length-take-le}
 use Rattle.calls.proofs.say.say_attrs.Goals as goal
 
 pub slice_bounds-write_all-end : goal.slice_bounds-write_all-end
