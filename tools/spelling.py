@@ -5,7 +5,7 @@ Words are in snake case; a dash joins two names (`length-visible`), and a plain 
 Functions of src/, exported names, strings and what programs print keep their names: none of them is in camel case.
 Where a lemma would have the name of a definition, it gets `_lem`. It is run once, on the tree that port.py made.
 """
-import collections, glob, os, re, subprocess, sys
+import collections, glob, os, re
 
 os.chdir(os.path.join(os.path.dirname(os.path.abspath(__file__)), ".."))
 SEP = r"[\s(){}\[\],;.:`\"]+"
@@ -33,7 +33,7 @@ def is_camel(word):
 
 
 def main():
-    words, top, spec_names, lemmas = collections.Counter(), set(), set(), set()
+    words, spec_names, lemmas = collections.Counter(), set(), set()
     for f in ANTT + RT:
         for line in open(f, encoding="utf-8"):
             for w in re.split(SEP, line):
