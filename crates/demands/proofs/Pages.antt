@@ -39,7 +39,7 @@ key_from (suc n) k j l h = go (eqb j k) refl (λ m. key_from n (suc k) j m (omeg
     go false e on = let q = eqb-false j k e in there (on (omega arith))
 
 from-below : (n k j : ℕ) → In j (keys_from k n) → j < k + n
-from-below zero k j x' = elim x' [ ]
+from-below zero k j i = elim i [ ]
 from-below (suc n) k j (here e) = omega arith
 from-below (suc n) k j (there i) = omega (arith, from-below n (suc k) j i)
 

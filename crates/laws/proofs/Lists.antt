@@ -78,7 +78,7 @@ positive n b e = ltb-true 0 n (pick (ltb 0 n) b e)
     pick false false e = e
 
 pub bare-at : (j : ℕ) (ks : List ℕ) (a : Set) → In j ks → bare ks a ≡ true → a j ≡ absent
-bare-at j [] a x'' h = elim x'' [ ]
+bare-at j [] a i h = elim i [ ]
 bare-at j (k ∷ ks) a (here e) h = ap a e ∙ is-absent (a k) (and_left (is_absent (a k)) (bare ks a) h)
 bare-at j (k ∷ ks) a (there i) h = bare-at j ks a i (and_right (is_absent (a k)) (bare ks a) h)
 

@@ -177,7 +177,7 @@ module _ (j : ℕ) where
       go (is w) e ih = ap (λ (x : ℕ). force live j x (marks ks a (suc m))) (step w e (eqb j k) refl) ∙ ih (suc m) v h
 
   pub marks-set : (ks : List ℕ) (a : Set) (m v : ℕ) → In j ks → force live j v (marks ks a m) ≡ lay (a j) v
-  marks-set [] a m v x' = elim x' [ ]
+  marks-set [] a m v i = elim i [ ]
   marks-set (k ∷ ks) a m v (there h) = go (a k) refl (λ m v. marks-set ks a m v h)
     where
       agree : (w : ℕ) → a k ≡ is w → (b : Bool) → eqb j k ≡ b → lay (a j) (cond b w v) ≡ lay (a j) v

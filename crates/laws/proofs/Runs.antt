@@ -40,7 +40,7 @@ module _ (j : ℕ) where
   runs-cells l = runs-from l [] none
 
   same_at : (ks : List ℕ) (e f : Env) → In j ks → same_force ks e f ≡ true → e j ≡ f j
-  same_at [] e f x'' h = elim x'' [ ]
+  same_at [] e f i h = elim i [ ]
   same_at (k ∷ ks) e f (here q) h = rw q (eqb-true (e k) (f k) (and_left _ _ h))
   same_at (k ∷ ks) e f (there i) h = same_at ks e f i (and_right (eqb (e k) (f k)) _ h)
 
@@ -114,7 +114,7 @@ keys-with-value ks e j = (from ks, λ h. back ks h.0 h.1)
         go false q (there h) ih = (there (ih h).0, (ih h).1)
 
     back : (ks : List ℕ) → In j ks → 0 < e j → In j (keys_of ks e)
-    back [] x' h = elim x' [ ]
+    back [] i h = elim i [ ]
     back (k ∷ ks) (here z) h = go (eqb (e k) 0) refl
       where
         go : (b : Bool) → eqb (e k) 0 ≡ b → In j (cond b (keys_of ks e) (k ∷ keys_of ks e))

@@ -18,7 +18,7 @@ AllSmall [] = Unit {0}
 AllSmall (k ∷ ks) = (k < 16) × AllSmall ks
 
 small_in : (k : ℕ) (ks : List ℕ) → In k ks → AllSmall ks → k < 16
-small_in k [] x'' h = elim x'' [ ]
+small_in k [] i h = elim i [ ]
 small_in k (c ∷ ks) (here e) h = subst (λ (x : ℕ). x < 16) (sym e) h.0
 small_in k (c ∷ ks) (there i) h = small_in k ks i h.1
 

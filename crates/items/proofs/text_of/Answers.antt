@@ -6,7 +6,7 @@ use Rattle.layout.specs.Memory.{sound_of}
 use Rattle.layout.proofs.Soundness.{sound-parts}
 use Rattle.items.proofs.Showing.{text-broken, text-unused, text-is, text-room, text-part}
 use Rattle.items.proofs.text_of.Goals as goal
-use Rattle.items.proofs.text_of.Goals.{After-struct_known-1, Else-n-h}
+use Rattle.items.proofs.text_of.Goals.{Else-n-h}
 
 -- where the item is read: the sheet is sound, and the number is used
 sound-here : (c : Else-n-h) → (

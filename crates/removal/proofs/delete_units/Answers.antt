@@ -9,7 +9,7 @@ use Rattle.arena.proofs.Carried.{going_start}
 use Rattle.arena.proofs.Standing.{right_lt}
 use Rattle.removal.specs.Tidies.{deleting}
 use Rattle.removal.proofs.delete_units.Goals as goal
-use Rattle.removal.proofs.delete_units.Goals.{After-struct_known-1, In-loop-at}
+use Rattle.removal.proofs.delete_units.Goals.{In-loop-at}
 
 -- at each turn: the item is one of the buffer
 inside : (c : In-loop-at) → (c.loop-at.at.right < c.args.h.items) × (c.loop-at.at.right < length c.loop-at.items)

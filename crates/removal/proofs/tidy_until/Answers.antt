@@ -8,7 +8,7 @@ use Rattle.arena.proofs.Carried.{going_start}
 use Rattle.arena.proofs.Standing.{right_lt}
 use Rattle.removal.proofs.Gaps.{tidied-past, tidied-all}
 use Rattle.removal.proofs.tidy_until.Goals as goal
-use Rattle.removal.proofs.tidy_until.Goals.{After-struct_known-1, In-loop-at}
+use Rattle.removal.proofs.tidy_until.Goals.{In-loop-at}
 
 -- at each turn: the item is one of the buffer
 inside : (c : In-loop-at) → (c.loop-at.at.right < c.args.h.items) × (c.loop-at.at.right < length c.loop-at.items)

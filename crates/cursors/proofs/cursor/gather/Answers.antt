@@ -58,10 +58,10 @@ loop-s-smaller c = rw c.past-s.ensures (omega (arith, c.loop-s-test.true))
 pub loop-s-preserved : goal.loop-s-preserved
 loop-s-preserved c =
     let unpacked = c.unpack-it.ensures in
-    let goes_on_lem = rw unpacked at (sym c.ends.ensures ∙ c.if-ends.false) in
+    let goes_on = rw unpacked at (sym c.ends.ensures ∙ c.if-ends.false) in
     rw (c.past-s.ensures, unpacked) (
       (stepped (goal.at.loop-s-preserved c).In-loop-s).stands,
-      (λ a g gs long. open_turn _ _ _ a _ _ c.requires.plain c.loop-s.invariant.0 c.loop-s-test.true goes_on_lem (c.loop-s.invariant.1 a g gs long)),
+      (λ a g gs long. open_turn _ _ _ a _ _ c.requires.plain c.loop-s.invariant.0 c.loop-s-test.true goes_on (c.loop-s.invariant.1 a g gs long)),
       omega (arith, c.loop-s.invariant.2),
       omega (arith, c.loop-s.invariant.3),
     )

@@ -9,7 +9,7 @@ use Rattle.arena.proofs.Steps.{forward-carried, cut-more}
 use Rattle.edits.proofs.Formats.{walked_end, walked_stop, walked-cut, walked_on, cut_means, halving-room, lt_killed}
 use Rattle.marks.proofs.Rooms.{carried-room}
 use Rattle.edits.proofs.format.walk.Goals as goal
-use Rattle.edits.proofs.format.walk.Goals.{After-struct_known-1, In-loop-at}
+use Rattle.edits.proofs.format.walk.Goals.{In-loop-at}
 
 -- at each turn: the item is one of the buffer
 inside : (c : In-loop-at) → (c.loop-at.at.right < c.args.h.items) × (c.loop-at.at.right < length c.loop-at.items)

@@ -15,7 +15,7 @@ pub overflow_sub-i : goal.overflow_sub-i
 overflow_sub-i c = omega arith
 
 pub overflow_mul-n : goal.overflow_mul-n
-overflow_mul-n c = omega (arith, rest_below c.args.bytes.now _ (λ j. (c.shared_slice_known-1.given j).fits) c.requires c.loop-i-test.true)
+overflow_mul-n c = omega (arith, rest_below c.args.bytes.now _ (λ j. (c.type_inv.bytes j).fits) c.requires c.loop-i-test.true)
 
 pub bounds-bytes-i : goal.bounds-bytes-i
 bounds-bytes-i c = omega arith
@@ -24,7 +24,7 @@ pub wide_byte-requires : goal.wide_byte-requires
 wide_byte-requires c = omega arith
 
 pub overflow_add-n : goal.overflow_add-n
-overflow_add-n c = omega (arith, c.shared_slice_known-in-loop-i-1.given (c.loop-i.i - 1), rest_below c.args.bytes.now _ (λ j. (c.shared_slice_known-1.given j).fits) c.requires c.loop-i-test.true)
+overflow_add-n c = omega (arith, c.type_inv.bytes (c.loop-i.i - 1), rest_below c.args.bytes.now _ (λ j. (c.type_inv.bytes j).fits) c.requires c.loop-i-test.true)
 
 pub loop-i-smaller : goal.loop-i-smaller
 loop-i-smaller c = omega arith
