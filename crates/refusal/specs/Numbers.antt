@@ -15,12 +15,7 @@ number_of Out = 8
 number_of Broken = 9
 number_of Key = 16
 
--- What an answer says of refusal, 0 where it is accepted ..
+-- What an answer says of it: 0 where the call is accepted.
 abbrev pub refusal_in : {A : Type 0} → Result A Refusal → ℕ
 refusal_in (Ok a) = 0
 refusal_in (Err r) = number_of r
-
--- .. and its other part, with what stands there where it is refused.
-abbrev pub value_in : {A : Type 0} → A → Result A Refusal → A
-value_in d (Ok a) = a
-value_in d (Err r) = d
