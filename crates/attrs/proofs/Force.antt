@@ -6,7 +6,7 @@ use native.Mathlib.Omega.{arith}
 use lib.Dec.{eqb, ltb}
 use borrow.Author.Tests.{lt-ltb, ltb-true, ltb-false, eqb-true}
 use Rattle.attrs.specs.declared.Attrs.{Attrs}
-use Rattle.attrs.specs.declared.Took.{Took}
+use Rattle.attrs.specs.Packed.{Took}
 use Rattle.sets.specs.Sets.{Slot, absent, is, Set, Env, empty, none, at, lay, non_null, as_set, differs, opened, former, completed, null_for, within}
 use Rattle.attrs.specs.Packed.{says, env_of, packed, onto, taken, with_at, update_at}
 use Rattle.sets.proofs.Bits.{at_other}

@@ -9,7 +9,7 @@ use lib.Dec.{eqb, ltb}
 use lib.ListN.{get_or}
 use borrow.Author.Tests.{eqb-true, eqb-false}
 use Rattle.attrs.specs.declared.Attrs.{Attrs}
-use Rattle.sets.specs.declared.Key.TheVariants.{At}
+use Rattle.std.specs.Prelude.{Some}
 use Rattle.sets.specs.Sets.{Slot, absent, is, keys, is_absent, lay, slot_is, present}
 use Rattle.sets.specs.Bits.{bit, keys_of, first_key, rest_of, Rest}
 use Rattle.attrs.specs.Packed.{Held, hidden, holds, look, seen, flag, says, env_of}
@@ -121,5 +121,5 @@ turn {m} {left} r p n q =
     below j s false e = omega (arith, bit_clear-other left (count_trailing_zeros 16 left) j s (eqb-false j (count_trailing_zeros 16 left) e), p.among j)
 
 -- the same where `lowest` found the key
-pub turn-lowest : {m left : ℕ} (k r : ℕ) → Part m left → first_key (keys_of left) ≡ At k → Rest left r → Turn m left k r
+pub turn-lowest : {m left : ℕ} (k r : ℕ) → Part m left → first_key (keys_of left) ≡ Some k → Rest left r → Turn m left k r
 turn-lowest k r p e q = let f = first-at _ k p.fits e in rw f.1 (turn r p f.0 q)

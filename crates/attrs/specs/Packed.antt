@@ -1,7 +1,9 @@
 -- What a set in memory says, the set that says a thing, and what the functions of the crate make of a set.
-use Rattle.std.specs.Prelude.{◌≡◌, Bool, cond, ◌&&◌, List, [], ◌∷◌, ℕ, zero, suc, ◌+◌, ◌*◌, ◌^◌, ◌<◌, ltb, length, get_or}
+use Rattle.std.specs.Prelude.{◌≡◌, Bool, cond, ◌&&◌, List, [], ◌∷◌, ℕ, zero, suc, ◌+◌, ◌*◌, ◌^◌, ◌<◌, ltb, length, get_or, Result}
+use Rattle.std.specs.Result.{result_unwrap_or}
 use Rattle.attrs.specs.declared.Attrs.{Attrs}
-use Rattle.attrs.specs.declared.Took.{Took}
+use Rattle.refusal.specs.declared.Refusal.{Refusal}
+use Rattle.refusal.specs.Numbers.{refusal_in}
 use Rattle.sets.specs.Sets.{Slot, absent, is, Set, Env, at, lay, non_null, differs, within}
 use Rattle.sets.specs.Bits.{bit}
 
@@ -66,6 +68,14 @@ unfoldable pub onto : Attrs → Set → Attrs
 onto a s = make (λ k. store (s k) (look a k))
 
 -- ---- what the functions answer
+
+-- A refusal number, 0 for none, and the set: the new one, or the one that was asked where it is refused.
+pub record Took : Type 0 where
+  pub refusal : ℕ
+  pub attrs : Attrs
+
+abbrev pub took : Attrs → Result Attrs Refusal → Took
+took a r = record { refusal = refusal_in r; attrs = result_unwrap_or r a }
 
 -- Refusal 16 (KEY), exactly for a key over 15 or a value over 255.
 abbrev pub takes : ℕ → ℕ → Bool

@@ -3,9 +3,10 @@
 
 ghost use Rattle.std.specs.Prelude.{◌≡◌, not, ◌<◌, length};
 ghost use Rattle.sets.specs.Sets.{absent, is, empty, keys, at, is_absent, bare, slot_is, opened, former, completed, same_sets, present};
-ghost use Rattle.attrs.specs.Packed.{says, env_of, packed, onto, with_at, update_at, changed, Got};
+ghost use Rattle.attrs.specs.Packed.{says, env_of, packed, onto, with_at, update_at, changed, took, Got};
 
-use sets::{bit_at, bit_of, rest, set_bit};
+use refusal::Refusal;
+use sets::{KeyWalk, bit_at, bit_of, set_bit};
 
 // A key is there where its bit of the mask is set. The byte of an absent key is never read.
 #[derive(Clone, Copy)]
@@ -14,21 +15,10 @@ pub struct Attrs {
     pub values: [u8; 16],
 }
 
-// Refusal 0 and the new set, or refusal 16 and the set as it was.
-#[derive(Clone, Copy)]
-pub struct Took {
-    pub refusal: u32,
-    pub attrs: Attrs,
-}
-
-fn wide(x: u8) -> u32
-    ensures { (result ≡ x) × (result < 256) }
-{
-    x as u32
-}
-
 impl Attrs {
     pub const KEYS: u32 = 16;
+
+    const LARGEST: u32 = 255;
 
     pub fn empty() -> Attrs
         ensures { result ≡ packed empty }
@@ -42,34 +32,24 @@ impl Attrs {
     pub fn has(self, key: u32) -> bool
         ensures { result ≡ not (is_absent (says self key)) }
     {
-        if key >= Attrs::KEYS {
-            return false;
-        }
-        bit_at(self.mask, key) == 1
+        key < Attrs::KEYS && bit_at(self.mask, key) == 1
     }
 
     // The value, 0 where the key is absent or null.
     pub fn get(self, key: u32) -> u32
         ensures { Got self key result }
     {
-        if key >= Attrs::KEYS {
+        if key >= Attrs::KEYS || bit_at(self.mask, key) == 0 {
             return 0;
         }
-        if bit_at(self.mask, key) == 0 {
-            return 0;
-        }
-        let i = key as usize;
-        wide(self.values[i])
+        u32::from(self.values[key as usize])
     }
 
     // Does the set hold just this value, null counted as one?
     pub fn agrees(self, key: u32, value: u32) -> bool
         ensures { result ≡ slot_is (says self key) value }
     {
-        if self.has(key) {
-            return self.get(key) == value;
-        }
-        false
+        self.has(key) && self.get(key) == value
     }
 
     fn put(self, key: u32, value: u32) -> Attrs
@@ -79,30 +59,17 @@ impl Attrs {
     {
         let mut out = self;
         out.mask = set_bit(self.mask, key);
-        let i = key as usize;
-        out.values[i] = value as u8;
+        out.values[key as usize] = value as u8;
         out
     }
 
-    pub fn with(self, key: u32, value: u32) -> Took
-        ensures { result ≡ with_at self key value }
+    pub fn with(self, key: u32, value: u32) -> Result<Attrs, Refusal>
+        ensures { took self result ≡ with_at self key value }
     {
-        if key >= Attrs::KEYS {
-            return Took {
-                refusal: 16,
-                attrs: self,
-            };
+        if key >= Attrs::KEYS || value > Attrs::LARGEST {
+            return Err(Refusal::Key);
         }
-        if value > 255 {
-            return Took {
-                refusal: 16,
-                attrs: self,
-            };
-        }
-        Took {
-            refusal: 0,
-            attrs: self.put(key, value),
-        }
+        Ok(self.put(key, value))
     }
 
     pub fn without(self, key: u32) -> Attrs
@@ -113,28 +80,21 @@ impl Attrs {
         }
         let mut out = self;
         out.mask = self.mask - bit_of(key);
-        let i = key as usize;
-        out.values[i] = 0;
+        out.values[key as usize] = 0;
         out
     }
 
     // What passing a mark makes of the attributes in force: null removes the key.
-    pub fn update_current_attributes(self, key: u32, value: u32) -> Took
-        ensures { result ≡ update_at self key value }
+    pub fn update_current_attributes(self, key: u32, value: u32) -> Result<Attrs, Refusal>
+        ensures { took self result ≡ update_at self key value }
     {
         if value != 0 {
             return self.with(key, value);
         }
         if key >= Attrs::KEYS {
-            return Took {
-                refusal: 16,
-                attrs: self,
-            };
+            return Err(Refusal::Key);
         }
-        Took {
-            refusal: 0,
-            attrs: self.without(key),
-        }
+        Ok(self.without(key))
     }
 
     pub fn count(self) -> u32
@@ -154,14 +114,9 @@ impl Attrs {
         ensures { result ≡ onto self (completed (says self) (env_of force)) }
     {
         let mut out = self;
-        let mut left = force.mask;
-        while left != 0 {
-            let k = u16::trailing_zeros(left);
-            left = rest(left);
-            if force.get(k) != 0 {
-                if bit_at(self.mask, k) == 0 {
-                    out = out.put(k, 0);
-                }
+        for key in KeyWalk::over(force.mask) {
+            if force.get(key) != 0 && bit_at(self.mask, key) == 0 {
+                out = out.put(key, 0);
             }
         }
         out
@@ -172,12 +127,9 @@ impl Attrs {
         ensures { result ≡ packed (changed (says self) (env_of force) (env_of from)) }
     {
         let mut out = Attrs::empty();
-        let mut left = self.mask;
-        while left != 0 {
-            let k = u16::trailing_zeros(left);
-            left = rest(left);
-            if self.get(k) != force.get(k) {
-                out = out.put(k, from.get(k));
+        for key in KeyWalk::over(self.mask) {
+            if self.get(key) != force.get(key) {
+                out = out.put(key, from.get(key));
             }
         }
         out
@@ -197,7 +149,7 @@ impl Attrs {
         self.changed(force, force)
     }
 
-    // The same slot at each key: the same keys, and no value that differs.
+    // The same slot at each key. A derived `==` would read the bytes of absent keys too.
     pub fn same(self, other: Attrs) -> bool
         ensures { result ≡ same_sets keys (says self) (says other) }
     {

@@ -9,7 +9,7 @@ use lib.Count.{ones, ones_step, ones-le, count_trailing_zeros, under}
 use lib.Dec.{eqb}
 use lib.ListN.{length}
 use borrow.Author.Tests.{eqb-true, eqb-false}
-use Rattle.sets.specs.declared.Key.TheVariants.{At, Nothing}
+use Rattle.std.specs.Prelude.{Some, None}
 use Rattle.sets.specs.Sets.{Slot, absent, is, Set, is_absent, keys, those, present}
 use Rattle.sets.specs.Bits.{bit, keys_of, first_key, rest_of, Rest}
 
@@ -112,26 +112,26 @@ keys-next m l n =
 
 -- ---- a walk by `lowest` and `rest`, from outside the crate
 
-pub first-at : (m k : ℕ) → m < 2 ^ 16 → first_key (keys_of m) ≡ At k → (m ≡ 0 → ⊥) × (k ≡ count_trailing_zeros 16 m)
+pub first-at : (m k : ℕ) → m < 2 ^ 16 → first_key (keys_of m) ≡ Some k → (m ≡ 0 → ⊥) × (k ≡ count_trailing_zeros 16 m)
 first-at m k l e = (full, same)
   where
     full : m ≡ 0 → ⊥
-    full z = let q : At k ≡ Nothing = sym e ∙ rw (z, keys_none) in let o : ◌≡◌ {A = ℕ} 0 1 = cc in omega arith
+    full z = let q : Some k ≡ None = sym e ∙ rw (z, keys_none) in let o : ◌≡◌ {A = ℕ} 0 1 = cc in omega arith
 
     same : k ≡ count_trailing_zeros 16 m
-    same = let q : first_key (keys_of m) ≡ At (count_trailing_zeros 16 m) = rw (keys-next m l full) in cc
+    same = let q : first_key (keys_of m) ≡ Some (count_trailing_zeros 16 m) = rw (keys-next m l full) in cc
 
-pub first-nothing : (m : ℕ) → m < 2 ^ 16 → first_key (keys_of m) ≡ Nothing → m ≡ 0
+pub first-nothing : (m : ℕ) → m < 2 ^ 16 → first_key (keys_of m) ≡ None → m ≡ 0
 first-nothing m l e = go (eqb m 0) refl
   where
     go : (t : Bool) → eqb m 0 ≡ t → m ≡ 0
     go true q = eqb-true m 0 q
     go false q =
-        let f : first_key (keys_of m) ≡ At (count_trailing_zeros 16 m) = rw (keys-next m l (eqb-false m 0 q)) in
+        let f : first_key (keys_of m) ≡ Some (count_trailing_zeros 16 m) = rw (keys-next m l (eqb-false m 0 q)) in
         let o : ◌≡◌ {A = ℕ} 0 1 = cc in
         absurd (omega arith)
 
-pub keys-rest : (m k r : ℕ) → m < 2 ^ 16 → first_key (keys_of m) ≡ At k → Rest m r → keys_of m ≡ k ∷ keys_of r
+pub keys-rest : (m k r : ℕ) → m < 2 ^ 16 → first_key (keys_of m) ≡ Some k → Rest m r → keys_of m ≡ k ∷ keys_of r
 keys-rest m k r l e q = let f = first-at m k l e in keys-next m l f.0 ∙ rw (f.1, q.is)
 
 -- ---- how many there are

@@ -1,8 +1,6 @@
 -- The bits of a key mask, and the walk over its keys by the lowest bit that is set.
-use Rattle.std.specs.Prelude.{◌≡◌, List, [], ◌∷◌, ℕ, zero, suc, ◌-◌, ◌/◌, ◌%◌, ◌^◌, ◌≤◌, ◌<◌, eqb}
+use Rattle.std.specs.Prelude.{◌≡◌, List, [], ◌∷◌, ℕ, zero, suc, ◌-◌, ◌/◌, ◌%◌, ◌^◌, ◌≤◌, ◌<◌, eqb, Option, Some, None}
 use Rattle.std.specs.Int.Count.{count_trailing_zeros}
-use Rattle.sets.specs.declared.Key.{Key}
-use Rattle.sets.specs.declared.Key.TheVariants.{At, Nothing}
 use Rattle.sets.specs.Sets.{keys, those, at}
 
 -- The bit of m that stands for the key k.
@@ -15,9 +13,9 @@ unfoldable pub keys_of : ℕ → List ℕ
 keys_of m = those (λ k. eqb (bit m k) 1) keys
 
 -- The first of them, if there is one.
-abbrev pub first_key : List ℕ → Key
-first_key [] = Nothing
-first_key (k ∷ ks) = At k
+abbrev pub first_key : List ℕ → Option ℕ
+first_key [] = None
+first_key (k ∷ ks) = Some k
 
 -- A mask without its lowest key; 0 has none.
 abbrev pub rest_of : ℕ → ℕ

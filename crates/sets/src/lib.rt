@@ -2,13 +2,9 @@
 #![tactic(auto)]
 
 ghost use Rattle.std.specs.Prelude.{◌≡◌, ◌<◌, ◌^◌};
+ghost use Rattle.std.specs.Iterator.{at_most};
 ghost use Rattle.sets.specs.Bits.{keys_of, first_key, Rest, BitIs, BitSet};
-
-#[derive(Clone, Copy)]
-pub enum Key {
-    At(u32),
-    Nothing,
-}
+ghost use Rattle.sets.specs.Walk.{Steps};
 
 pub fn bit_of(key: u32) -> u16
     requires { key < 16 }
@@ -36,14 +32,14 @@ pub fn set_bit(mask: u16, key: u32) -> u16
     }
 }
 
-// The lowest key of a mask: with `rest`, the step of every walk over the keys of a set.
-pub fn lowest(mask: u16) -> Key
+// The lowest key of a mask.
+pub fn lowest(mask: u16) -> Option<u32>
     ensures { result ≡ first_key (keys_of mask) }
 {
     if mask == 0 {
-        Key::Nothing
+        None
     } else {
-        Key::At(u16::trailing_zeros(mask))
+        Some(u16::trailing_zeros(mask))
     }
 }
 
@@ -55,4 +51,32 @@ pub fn rest(mask: u16) -> u16
         return mask;
     }
     mask - bit_of(u16::trailing_zeros(mask))
+}
+
+// The keys of a mask, ascending: every walk over a set goes by it. `left` are those that are still to come.
+#[derive(Clone, Copy)]
+pub struct KeyWalk {
+    pub left: u16,
+}
+
+impl KeyWalk {
+    pub fn over(mask: u16) -> KeyWalk
+        ensures { result.left ≡ mask }
+    {
+        KeyWalk { left: mask }
+    }
+}
+
+impl Iterator for KeyWalk {
+    type Item = u32;
+
+    ghost next_gives = { Steps };
+
+    ghost remaining = { λ s. at_most s.left };
+
+    fn next(&mut self) -> Option<u32> {
+        let key = lowest(self.left)?;
+        self.left = rest(self.left);
+        Some(key)
+    }
 }

@@ -11,5 +11,5 @@ returns-then-has c =
     ap (λ (x : ℕ). eqb x a.value) c.get.ensures.is
     ∙ agrees-there a.self a.key a.value (sym c.has.ensures ∙ c.if-has.true)
 
-pub returns : goal.returns
-returns c = agrees-not _ _ _ (sym c.has.ensures ∙ c.if-has.false)
+pub returns-else-has : goal.returns-else-has
+returns-else-has c = c.if-has.false ∙ agrees-not _ _ _ (sym c.has.ensures ∙ c.if-has.false)

@@ -4,14 +4,16 @@ use native.Mathlib.Omega.{arith}
 use Rattle.attrs.proofs.Slots.{env-past, env-clear, env-set}
 use borrow.Author.Rules.{rules}
 use Rattle.attrs.proofs.Attrs.get.Goals as goal
+use Rattle.attrs.proofs.Attrs.get.Goals.{then-key-ge-KEYS-via-then-key-ge-KEYS, then-key-ge-KEYS-via-else-key-ge-KEYS+then-bit_at-eq0}
 
 pub returns-then-key-ge-KEYS : goal.returns-then-key-ge-KEYS
-returns-then-key-ge-KEYS c = search (rules, env-past)
-
-pub returns-then-bit_at-eq0 : goal.returns-then-bit_at-eq0
-returns-then-bit_at-eq0 c = record { is = sym (env-clear _ _ (omega arith)); small = omega arith }
+returns-then-key-ge-KEYS c =
+    elim c.then-key-ge-KEYS.branch [
+      | then-key-ge-KEYS-via-then-key-ge-KEYS w ↦ search (rules, env-past)
+      | then-key-ge-KEYS-via-else-key-ge-KEYS+then-bit_at-eq0 w ↦ record { is = sym (env-clear _ _ (omega arith)); small = omega arith }
+    ]
 
 pub returns : goal.returns
 returns c =
     let a = c.args in
-    record { is = c.wide.ensures.0 ∙ sym (env-set a.self a.key (omega arith) (omega arith)); small = c.wide.ensures.1 }
+    record { is = c.from.ensures ∙ sym (env-set a.self a.key (omega arith) (omega arith)); small = search rules }

@@ -1,54 +1,45 @@
 -- `attrs::Attrs::unset_missing` meets its contract: a walk over the keys of what is in force, that stores into the set itself.
+use mathlib.Core.Path.{◌≡◌}
 use native.Mathlib.Omega.{arith}
 use borrow.Author.Rules.{rules}
-use lib.Count.{count_trailing_zeros}
 use Rattle.attrs.specs.Packed.{env_of}
-use Rattle.attrs.proofs.Slots.{env-clear, Turn, turn}
+use Rattle.attrs.proofs.Slots.{env-clear, Turn, turn-lowest}
 use Rattle.attrs.proofs.Changes.{completed-none, completed-keeps, completed-puts}
 use Rattle.attrs.proofs.Walk.{begins, ends, visit-put, visit-keep}
 use Rattle.attrs.proofs.Attrs.unset_missing.Goals as goal
-use Rattle.attrs.proofs.Attrs.unset_missing.Goals.{After-rest-left}
+use Rattle.attrs.proofs.Attrs.unset_missing.Goals.{In-Some, else-get-ne0-via-then-get-ne0+else-bit_at-eq0, else-get-ne0-via-else-get-ne0}
 
 -- the key of a turn
-met : (c : After-rest-left) → Turn c.args.force.mask c.loop-left.left (count_trailing_zeros 16 c.loop-left.left) c.rest-left.result
-met c = turn _ c.loop-left.invariant.part c.loop-left-test.true c.rest-left.ensures
+met : (c : In-Some) → Turn c.args.force.mask c.loop-key.key-iterator.left c.in-Some.key c.next.new.self.left
+met c = let s = c.in-Some.ensures.steps in turn-lowest _ _ c.loop-key.invariant.part s.0 s.1
 
-pub loop-left-init : goal.loop-left-init
-loop-left-init c =
+pub loop-key-init : goal.loop-key-init
+loop-key-init c =
     let a = c.args in
-    begins _ _ _ (search rules) (search rules) (λ j e. completed-none a.self (env_of a.force) j (env-clear a.force j e))
+    let all : c.into_iter-key-iterator.result.left ≡ a.force.mask = cc in
+    rw all (begins _ _ _ (search rules) (search rules) (λ j e. completed-none a.self (env_of a.force) j (env-clear a.force j e)))
 
 pub bit_at-requires : goal.bit_at-requires
-bit_at-requires c = (met (goal.at.bit_at-requires c).After-rest-left).lt
+bit_at-requires c = (met (goal.at.bit_at-requires c).In-Some).lt
 
-pub put-out-requires : goal.put-out-requires
-put-out-requires c = record { key_bound = (met (goal.at.put-out-requires c).After-rest-left).lt; value_bound = omega arith }
+pub put-out-requires-clause-key_bound : goal.put-out-requires-clause-key_bound
+put-out-requires-clause-key_bound c = (met (goal.at.put-out-requires-clause-key_bound c).In-Some).lt
 
-pub loop-left-smaller-then-bit_at-eq0 : goal.loop-left-smaller-then-bit_at-eq0
-loop-left-smaller-then-bit_at-eq0 c = omega arith
-
-pub loop-left-preserved-then-bit_at-eq0 : goal.loop-left-preserved-then-bit_at-eq0
-loop-left-preserved-then-bit_at-eq0 c =
+pub loop-key-preserved-then-bit_at-eq0 : goal.loop-key-preserved-then-bit_at-eq0
+loop-key-preserved-then-bit_at-eq0 c =
     let a = c.args in
-    visit-put c.loop-left.invariant (met (goal.at.loop-left-preserved-then-bit_at-eq0 c).After-rest-left) c.put-out.ensures
+    visit-put c.loop-key.invariant (met (goal.at.loop-key-preserved-then-bit_at-eq0 c).In-Some) c.put-out.ensures
     (completed-puts a.self (env_of a.force) _ (omega arith) (λ e. omega arith))
 
-pub loop-left-smaller-else-bit_at-eq0 : goal.loop-left-smaller-else-bit_at-eq0
-loop-left-smaller-else-bit_at-eq0 c = omega arith
-
-pub loop-left-preserved-else-bit_at-eq0 : goal.loop-left-preserved-else-bit_at-eq0
-loop-left-preserved-else-bit_at-eq0 c =
+pub loop-key-preserved : goal.loop-key-preserved
+loop-key-preserved c =
     let a = c.args in
-    let x = met (goal.at.loop-left-preserved-else-bit_at-eq0 c).After-rest-left in
-    visit-keep c.loop-left.invariant x (completed-keeps a.self (env_of a.force) _ x.lt (omega arith))
-
-pub loop-left-smaller : goal.loop-left-smaller
-loop-left-smaller c = omega arith
-
-pub loop-left-preserved : goal.loop-left-preserved
-loop-left-preserved c =
-    let a = c.args in
-    visit-keep c.loop-left.invariant (met (goal.at.loop-left-preserved c).After-rest-left) (completed-none a.self (env_of a.force) _ (omega arith))
+    let x = met (goal.at.loop-key-preserved c).In-Some in
+    visit-keep c.loop-key.invariant x
+    (elim c.else-get-ne0.branch [
+      | else-get-ne0-via-then-get-ne0+else-bit_at-eq0 w ↦ completed-keeps a.self (env_of a.force) _ x.lt (omega arith)
+      | else-get-ne0-via-else-get-ne0 w ↦ completed-none a.self (env_of a.force) _ (omega arith)
+    ])
 
 pub returns : goal.returns
-returns c = ends c.loop-left.invariant c.loop-left-test.false
+returns c = ends c.loop-key.invariant (c.in-None.ensures.steps).0

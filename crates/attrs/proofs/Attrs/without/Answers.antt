@@ -22,8 +22,8 @@ bit_of-requires c = (found (goal.at.bit_of-requires c).Else-not-has).0
 pub overflow_sub-out : goal.overflow_sub-out
 overflow_sub-out c = omega (arith, bit_le _ _ (found (goal.at.overflow_sub-out c).Else-not-has).1)
 
-pub bounds-out-i : goal.bounds-out-i
-bounds-out-i c = (found (goal.at.bounds-out-i c).Else-not-has).0
+pub bounds-out-key : goal.bounds-out-key
+bounds-out-key c = (found (goal.at.bounds-out-key c).Else-not-has).0
 
 pub returns : goal.returns
 returns c =
