@@ -7,53 +7,42 @@ ghost use Rattle.attrs.specs.Packed.{says, env_of};
 ghost use Rattle.attrs_main.specs.Sum.{sum_of};
 
 use attrs::Attrs;
-use sets::Key;
+use sets::KeyWalk;
 
-// A walk over the keys from outside, by `lowest` and `rest`.
+// A walk over the keys from outside.
 fn total(a: Attrs) -> u32
     ensures { result ≡ sum_of (env_of a) (present keys (says a)) }
 {
-    let mut left = a.mask;
     let mut sum: u32 = 0;
-    loop {
-        let low = sets::lowest(left);
-        let Key::At(k) = low else {
-            return sum;
-        };
-        left = sets::rest(left);
-        sum = sum + a.get(k);
+    for key in KeyWalk::over(a.mask) {
+        sum += a.get(key);
     }
+    sum
 }
 
 fn refusals() {
     let e = Attrs::empty();
     check::expect(e.is_empty());
     let last = e.with(15, 255);
-    check::expect(last.refusal == 0);
-    let a = last.attrs;
+    check::expect(refusal::number(last) == 0);
+    let a = last.unwrap_or(e);
     check::expect(a.get(15) == 255);
     check::expect(a.get(4294967295) == 0);
-    let past = a.with(16, 1);
-    check::expect(past.refusal == 16);
-    let big = a.with(15, 256);
-    check::expect(big.refusal == 16);
+    check::expect(refusal::number(a.with(16, 1)) == 16);
+    check::expect(refusal::number(a.with(15, 256)) == 16);
     let far = a.update_current_attributes(4294967295, 4294967295);
-    check::expect(far.refusal == 16);
-    let kept = far.attrs;
-    check::expect(kept.same(a));
+    check::expect(refusal::number(far) == 16);
+    check::expect(far.unwrap_or(a).same(a));
 }
 
 fn nulls() {
     let e = Attrs::empty();
-    let one = e.with(15, 255);
-    let a = one.attrs;
-    let two = a.with(0, 0);
-    let n = two.attrs;
+    let a = e.with(15, 255).unwrap_or(e);
+    let n = a.with(0, 0).unwrap_or(a);
     check::expect(n.has(0));
     check::expect(n.get(0) == 0);
     check::expect(n.count() == 2);
-    let marked = n.update_current_attributes(15, 0);
-    let m = marked.attrs;
+    let m = n.update_current_attributes(15, 0).unwrap_or(n);
     check::expect(m.count() == 1);
     // a null in force is nothing in force
     let u = e.unset_missing(n);

@@ -5,17 +5,17 @@ ghost use Rattle.std.specs.Prelude.{◌≡◌, ◌||◌, eqb};
 ghost use Rattle.units.specs.Kinds.{kind_of};
 ghost use Rattle.units.specs.Surrogates.{is_high, is_low, paired, splits_pair, halves};
 
-#[derive(Clone, Copy)]
+#[derive(Clone, Copy, PartialEq, Eq)]
 pub enum Kind {
     Plain,
     High,
     Low,
 }
 
-impl Kind {
-    pub fn of(unit: u16) -> Kind
-        ensures { result ≡ kind_of unit }
-    {
+impl From<u16> for Kind {
+    ghost from_gives = { λ unit kind. kind ≡ kind_of unit };
+
+    fn from(unit: u16) -> Kind {
         match unit {
             0xD800..=0xDBFF => Kind::High,
             0xDC00..=0xDFFF => Kind::Low,
@@ -27,23 +27,13 @@ impl Kind {
 pub fn is_high(unit: u16) -> bool
     ensures { result ≡ is_high unit }
 {
-    let kind = Kind::of(unit);
-    match kind {
-        Kind::High => true,
-        Kind::Plain => false,
-        Kind::Low => false,
-    }
+    Kind::from(unit) == Kind::High
 }
 
 pub fn is_low(unit: u16) -> bool
     ensures { result ≡ is_low unit }
 {
-    let kind = Kind::of(unit);
-    match kind {
-        Kind::Low => true,
-        Kind::Plain => false,
-        Kind::High => false,
-    }
+    Kind::from(unit) == Kind::Low
 }
 
 // No surrogate without its other half.
@@ -52,13 +42,11 @@ pub fn is_whole(units: &[u16]) -> bool
 {
     // Whether the unit just passed is a high one that still wants its low one.
     let mut held = false;
-    let mut i = 0;
-    while i < units.len() {
-        if is_low(units[i]) != held {
+    for unit in units {
+        if is_low(*unit) != held {
             return false;
         }
-        held = is_high(units[i]);
-        i += 1;
+        held = is_high(*unit);
     }
     !held
 }
@@ -74,12 +62,10 @@ pub fn is_plain(units: &[u16]) -> bool
     ensures { result ≡ eqb (halves units.now) 0 }
 {
     let mut plain = true;
-    let mut i = 0;
-    while i < units.len() {
-        if is_half(units[i]) {
+    for unit in units {
+        if is_half(*unit) {
             plain = false;
         }
-        i += 1;
     }
     plain
 }

@@ -2,87 +2,57 @@
 // index split a pair. Then three lines over eight units: kinds, high ones, low ones.
 #![tactic(auto)]
 
+use std::io;
 use units::Kind;
 
-fn put(answer: bool) {
-    if answer {
-        io::write_all(1, b"1");
-    } else {
-        io::write_all(1, b"0");
+fn text(rt: &impl Print, units: &[u16]) -> io::Result<()> {
+    print!(rt; "{} ", u8::from(units::is_whole(units)))?;
+    for index in [0, 1, 2, 3, 4, 0xFFFF_FFFF] {
+        print!(rt; "{}", u8::from(units::splits_pair(units, index)))?;
     }
+    println!(rt;)
 }
 
-fn text(units: &[u16]) {
-    put(units::is_whole(units));
-    io::write_all(1, b" ");
-    put(units::splits_pair(units, 0));
-    put(units::splits_pair(units, 1));
-    put(units::splits_pair(units, 2));
-    put(units::splits_pair(units, 3));
-    put(units::splits_pair(units, 4));
-    put(units::splits_pair(units, 0xFFFF_FFFF));
-    io::write_all(1, b"\n");
-}
-
-fn kind(unit: u16) {
-    let kind = Kind::of(unit);
+fn letter(kind: Kind) -> char {
     match kind {
-        Kind::Plain => {
-            io::write_all(1, b"P");
-        }
-        Kind::High => {
-            io::write_all(1, b"H");
-        }
-        Kind::Low => {
-            io::write_all(1, b"L");
-        }
+        Kind::Plain => 'P',
+        Kind::High => 'H',
+        Kind::Low => 'L',
     }
 }
 
-fn main() {
-    let none: [u16; 0] = [];
-    text(&none);
-    text(&[0xD800]);
-    text(&[0xDC00]);
-    text(&[0xD83D, 0xDE00]);
-    text(&[0xD83D, 0xD83D, 0xDE00]);
-    text(&[0xDE00, 0xD83D]);
-    text(&[0xDE00, 0xD83D, 0xDE00]);
-    text(&[0x0061, 0xD83D, 0xDE00, 0x0062]);
-    text(&[0xDBFF, 0xDFFF, 0xD800, 0xDC00]);
-    text(&[0xD83D, 0xDE00, 0xDE00]);
-    text(&[0xD7FF, 0xE000, 0xFFFF, 0x0000]);
-    text(&[0xD800, 0xE000]);
-    text(&[0xD7FF, 0xDC00]);
-    limits();
+const LIMITS: [u16; 8] = [
+    0x0000, 0xD7FF, 0xD800, 0xDBFF, 0xDC00, 0xDFFF, 0xE000, 0xFFFF,
+];
+
+fn limits(rt: &impl Print) -> io::Result<()> {
+    for unit in LIMITS {
+        print!(rt; "{}", letter(Kind::from(unit)))?;
+    }
+    println!(rt;)?;
+    for unit in LIMITS {
+        print!(rt; "{}", u8::from(units::is_high(unit)))?;
+    }
+    println!(rt;)?;
+    for unit in LIMITS {
+        print!(rt; "{}", u8::from(units::is_low(unit)))?;
+    }
+    println!(rt;)
 }
 
-fn limits() {
-    kind(0x0000);
-    kind(0xD7FF);
-    kind(0xD800);
-    kind(0xDBFF);
-    kind(0xDC00);
-    kind(0xDFFF);
-    kind(0xE000);
-    kind(0xFFFF);
-    io::write_all(1, b"\n");
-    put(units::is_high(0x0000));
-    put(units::is_high(0xD7FF));
-    put(units::is_high(0xD800));
-    put(units::is_high(0xDBFF));
-    put(units::is_high(0xDC00));
-    put(units::is_high(0xDFFF));
-    put(units::is_high(0xE000));
-    put(units::is_high(0xFFFF));
-    io::write_all(1, b"\n");
-    put(units::is_low(0x0000));
-    put(units::is_low(0xD7FF));
-    put(units::is_low(0xD800));
-    put(units::is_low(0xDBFF));
-    put(units::is_low(0xDC00));
-    put(units::is_low(0xDFFF));
-    put(units::is_low(0xE000));
-    put(units::is_low(0xFFFF));
-    io::write_all(1, b"\n");
+fn main(rt: HostRuntime) -> io::Result<()> {
+    text(&rt, &[])?;
+    text(&rt, &[0xD800])?;
+    text(&rt, &[0xDC00])?;
+    text(&rt, &[0xD83D, 0xDE00])?;
+    text(&rt, &[0xD83D, 0xD83D, 0xDE00])?;
+    text(&rt, &[0xDE00, 0xD83D])?;
+    text(&rt, &[0xDE00, 0xD83D, 0xDE00])?;
+    text(&rt, &[0x0061, 0xD83D, 0xDE00, 0x0062])?;
+    text(&rt, &[0xDBFF, 0xDFFF, 0xD800, 0xDC00])?;
+    text(&rt, &[0xD83D, 0xDE00, 0xDE00])?;
+    text(&rt, &[0xD7FF, 0xE000, 0xFFFF, 0x0000])?;
+    text(&rt, &[0xD800, 0xE000])?;
+    text(&rt, &[0xD7FF, 0xDC00])?;
+    limits(&rt)
 }

@@ -3,19 +3,18 @@ use mathlib.Core.Path.{◌≡◌, ap, ap₂, ◌∙◌}
 use Prim.Native.Nat.{ℕ}
 use lib.Dec.{eqb, lit≤}
 use Rattle.attrs.specs.declared.Attrs.{Attrs}
-use Rattle.attrs.specs.declared.Took.{Took}
 use Rattle.sets.specs.Sets.{empty, keys, bare, same_sets}
 use Rattle.sets.specs.Bits.{bit}
-use Rattle.attrs.specs.Packed.{look, says, env_of, make, mask_of, values_of, packed, onto, with_at}
+use Rattle.attrs.specs.Packed.{Took, look, says, env_of, make, mask_of, values_of, packed, onto, with_at}
 use Rattle.attrs.proofs.Slots.{env-past}
 use Rattle.attrs_main.proofs.refusals.Goals as goal
-use Rattle.attrs_main.proofs.refusals.Goals.{After-with-last}
+use Rattle.attrs_main.proofs.refusals.Goals.{After-unwrap_or-a}
 
 abbrev A : Attrs
 A = (with_at (packed empty) 15 255).attrs
 
-a-is : (c : After-with-last) → c.with-last.result.attrs ≡ A
-a-is c = ap (λ (t : Took). t.attrs) (c.with-last.ensures ∙ ap (λ (e : Attrs). with_at e 15 255) c.empty-e.ensures)
+a-is : (c : After-unwrap_or-a) → c.unwrap_or-a.result ≡ A
+a-is c = c.unwrap_or-a.ensures ∙ ap (λ (t : Took). t.attrs) (c.with-last.ensures ∙ ap (λ (e : Attrs). with_at e 15 255) c.empty-e.ensures)
 
 pub expect-requires : goal.expect-requires
 unfolding look bit make mask_of values_of packed onto says keys
@@ -23,7 +22,7 @@ expect-requires c = c.is_empty.ensures ∙ ap (λ (e : Attrs). bare keys (says e
 
 pub expect-requires-3 : goal.expect-requires-3
 unfolding look bit make mask_of values_of packed onto says env_of
-expect-requires-3 c = ap (λ (x : ℕ). eqb x 255) (c.get.ensures.is ∙ ap (λ (a : Attrs). env_of a 15) (a-is (goal.at.expect-requires-3 c).After-with-last))
+expect-requires-3 c = ap (λ (x : ℕ). eqb x 255) (c.get.ensures.is ∙ ap (λ (a : Attrs). env_of a 15) (a-is (goal.at.expect-requires-3 c).After-unwrap_or-a))
 
 pub expect-requires-4 : goal.expect-requires-4
 expect-requires-4 c = ap (λ (x : ℕ). eqb x 0) (c.get-2.ensures.is ∙ env-past _ _ (lit≤ tt))
@@ -31,6 +30,6 @@ expect-requires-4 c = ap (λ (x : ℕ). eqb x 0) (c.get-2.ensures.is ∙ env-pas
 pub expect-requires-8 : goal.expect-requires-8
 unfolding look bit make mask_of values_of packed onto says keys
 expect-requires-8 c =
-    let a = a-is (goal.at.expect-requires-8 c).After-with-last in
-    let kept = ap (λ (t : Took). t.attrs) c.update_current_attributes-far.ensures in
+    let a = a-is (goal.at.expect-requires-8 c).After-unwrap_or-a in
+    let kept = c.unwrap_or.ensures ∙ ap (λ (t : Took). t.attrs) c.update_current_attributes-far.ensures in
     c.same.ensures ∙ ap₂ (λ (x y : Attrs). same_sets keys (says x) (says y)) (kept ∙ a) a

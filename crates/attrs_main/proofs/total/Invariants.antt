@@ -8,8 +8,8 @@ use Rattle.attrs_main.specs.Sum.{sum_of}
 use Rattle.attrs_main.proofs.total.Given as goal
 
 -- what is summed and what is left make the whole; a key adds at most 255
-abbrev pub invariant-loop-k : goal.invariant-loop-k
-invariant-loop-k l = Part l.a.mask l.left × (l.sum + sum_of (env_of l.a) (keys_of l.left) ≡ sum_of (env_of l.a) (keys_of l.a.mask)) × (l.sum + 255 * length (keys_of l.left) ≤ 4080)
-
-abbrev pub decreases-loop-k : goal.decreases-loop-k
-decreases-loop-k l = l.left
+abbrev pub invariant-loop-key : goal.invariant-loop-key
+invariant-loop-key l =
+    Part l.a.mask l.key-iterator.left
+    × (l.sum + sum_of (env_of l.a) (keys_of l.key-iterator.left) ≡ sum_of (env_of l.a) (keys_of l.a.mask))
+    × (l.sum + 255 * length (keys_of l.key-iterator.left) ≤ 4080)

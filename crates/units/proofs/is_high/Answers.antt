@@ -1,13 +1,16 @@
 -- `units::is_high` meets its contract: the unit's kind settles it. Assumes nothing.
-use mathlib.Core.Path.{sym, ap, ◌∙◌}
+use mathlib.Core.Path.{◌≡◌, refl, sym, ap, ◌∙◌}
+use denote.Enum.Bare.{sameb}
+use Rattle.units.specs.contracts.Kind.{the_type}
+use Rattle.units.specs.declared.Kind.{Kind}
+use Rattle.units.specs.declared.Kind.TheVariants.{Plain, High, Low}
 use Rattle.units.proofs.Halves.{high_kind, high_by-kind}
 use Rattle.units.proofs.is_high.Goals as goal
 
-pub returns-in-High : goal.returns-in-High
-returns-in-High c = sym (high_by-kind _ ∙ ap high_kind (sym c.of-kind.ensures ∙ c.in-High.is))
+equals : (k : Kind) → sameb the_type k High ≡ high_kind k
+equals Plain = refl
+equals High = refl
+equals Low = refl
 
-pub returns-in-Plain : goal.returns-in-Plain
-returns-in-Plain c = sym (high_by-kind _ ∙ ap high_kind (sym c.of-kind.ensures ∙ c.in-Plain.is))
-
-pub returns-in-Low : goal.returns-in-Low
-returns-in-Low c = sym (high_by-kind _ ∙ ap high_kind (sym c.of-kind.ensures ∙ c.in-Low.is))
+pub returns : goal.returns
+returns c = c.eq.ensures ∙ ap (λ (k : Kind). sameb the_type k High) c.from.ensures ∙ equals _ ∙ sym (high_by-kind _)

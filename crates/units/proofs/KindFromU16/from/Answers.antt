@@ -1,8 +1,8 @@
--- `units::Kind::of` meets its contract: each arm's range is that of its kind. Assumes nothing.
+-- `units::Kind::from` meets its contract: each arm's range is that of its kind. Assumes nothing.
 use native.Mathlib.Omega.{arith}
 use mathlib.Core.Path.{sym}
 use Rattle.units.proofs.Halves.{high_in, low_in, plain-below, plain_from, kind-high, kind-low, kind-plain}
-use Rattle.units.proofs.Kind.of.Goals as goal
+use Rattle.units.proofs.KindFromU16.from.Goals as goal
 
 pub returns-in-55296-to-56319 : goal.returns-in-55296-to-56319
 returns-in-55296-to-56319 c = let u = c.args.unit in sym (kind-high u (high_in u (omega arith) (omega arith)))
