@@ -17,12 +17,10 @@ fn cuts_piece(c: Content, used: &[u16], index: u32) -> bool
 {
     match c {
         Content::Text { start, len } => {
-            let a = start as usize;
-            let e = a + len as usize;
-            units::splits_pair(&used[a..e], index)
+            let start = start as usize;
+            units::splits_pair(&used[start..start + len as usize], index)
         }
-        Content::Embed(_) => false,
-        Content::Mark { key: _, value: _ } => false,
+        _ => false,
     }
 }
 
@@ -30,20 +28,16 @@ fn falls_in_pair(h: Head, items: &[u64], used: &[u16], index: u64) -> bool
     requires { Readable h items.now used.now }
     ensures { result ≡ splits_pair (visible_units used.now (list_of h items.now)) index }
 {
-    let mut k = h.items;
     let mut at = h.first;
     let mut rest = index;
-    while k > 0 {
-        let i = at as usize;
-        let it = unpack(items[i]);
+    for _ in 0..h.items {
+        let it = unpack(items[at as usize]);
         let w = shown_len(it) as u64;
         if rest < w {
-            let c = it.content;
-            return cuts_piece(c, used, rest as u32);
+            return cuts_piece(it.content, used, rest as u32);
         }
         rest -= w;
         at = it.next;
-        k -= 1;
     }
     false
 }
@@ -54,8 +48,5 @@ pub fn cuts_pair(h: Head, items: &[u64], used: &[u16], index: u64) -> bool
     requires { Readable h items.now used.now }
     ensures { result ≡ splits_pair (visible_units used.now (list_of h items.now)) index }
 {
-    if units::is_plain(used) {
-        return false;
-    }
-    falls_in_pair(h, items, used, index)
+    !units::is_plain(used) && falls_in_pair(h, items, used, index)
 }

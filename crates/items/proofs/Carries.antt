@@ -9,14 +9,13 @@ use borrow.Author.Tests.{eq-eqb, ne_eqb, eqb-true}
 use Rattle.rules.specs.Sheet.{Item, begin}
 use Rattle.rules.specs.Calls.{Sheet, Outcome, begin_now, call}
 use Rattle.rules.specs.Rulings.{SoundSheet}
-use Rattle.laws.proofs.Calls.{call-sound}
 use Rattle.layout.specs.declared.head.Head.{Head}
 use Rattle.layout.specs.Chain.{head_or}
 use Rattle.layout.specs.Heads.{grown_head}
 use Rattle.layout.specs.Memory.{list_of, model_of, sound_of, Sound, kept_all, stored_all, carry_by, carry}
-use Rattle.items.specs.Calls.{answer_of, rest_word, sweep_to}
+use Rattle.items.specs.Calls.{rest_word, sweep_to}
 use Rattle.layout.proofs.Soundness.{sound-parts, sound-whole}
-use Rattle.layout.proofs.Models.{model-sound, sound-head, stored-sound, stored-model}
+use Rattle.layout.proofs.Models.{model-sound, sound-head, sound-units, stored-sound, stored-model}
 use Rattle.items.proofs.Sweeps.{begin-stored}
 
 -- ---- the three ways
@@ -58,20 +57,14 @@ module _ (f : Sheet → Outcome) (keeps : (s : Sheet) → SoundSheet s → (f s)
       rw (carry-done f h m u ok r) (stored-model (f (model_of h m u)).sheet h m u k p.words p.room)
 
 -- ---- begin
-pub begin-keeps : (s : Sheet) → SoundSheet s → (call begin_now s).refusal ≡ 0 → SoundSheet (call begin_now s).sheet
-begin-keeps s k r = call-sound begin_now tt s k
-
 head-rested : (l : List Item) → head_or (begin l) ≡ head_or l
 unfolding head_or
 head-rested [] = refl
 head-rested (i ∷ l) = refl
 
 -- what the code of begin answers and leaves
-pub begin-head : (h : Head) (m u : List ℕ) → sound_of h m u ≡ true → record { refusal = 0; head = h } ≡ answer_of (carry begin_now h m u)
-begin-head h m u ok =
+pub begin-is : (h : Head) (m u : List ℕ) → sound_of h m u ≡ true → record { refusal = 0; head = h; words = sweep_to rest_word h.items m; units = u } ≡ carry begin_now h m u
+begin-is h m u ok =
     let p = sound-parts h m u ok in
     let e = ap (λ (x : ℕ). grown_head h x h.items (length (take h.units u))) (head-rested (list_of h m)) ∙ sound-head h m u p in
-    rw (carry-done (call begin_now) h m u ok refl) (ap (λ (x : Head). record { refusal = 0; head = x }) (sym e))
-
-pub begin-words : (h : Head) (m u : List ℕ) → sound_of h m u ≡ true → sweep_to rest_word h.items m ≡ (carry begin_now h m u).words
-begin-words h m u ok = rw (carry-done (call begin_now) h m u ok refl) (begin-stored h m u (sound-parts h m u ok))
+    rw (carry-done (call begin_now) h m u ok refl, e, sound-units h m u p) (ap (λ (x : List ℕ). record { refusal = 0; head = h; words = x; units = u }) (begin-stored h m u p))

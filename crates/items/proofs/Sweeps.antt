@@ -6,7 +6,8 @@ use mathlib.Core.Path.{◌≡◌, refl, sym, ap, ap₂, ◌∙◌}
 use mathlib.Core.Bool.{Bool, true, false}
 use mathlib.Core.List.{List, ◌∷◌, ◌++◌, map}
 use lib.ListN.{length, get_or, set, take, drop, length-set, take-append-drop}
-use lib.Seq.{get_or-set_same, get_or-set_other, drop-set-lt}
+use lib.Seq.{get_or-set_same, get_or-set_other, drop-set-lt, get_or-take, length-take-le}
+use Rattle.std.proofs.lemmas.List.{set-append_left}
 use lib.Dec.{eqb}
 use borrow.Author.Tests.{lt-ltb, eqb-true, eqb-false}
 use Rattle.rules.specs.Sheet.{Item, rested, begin}
@@ -73,6 +74,15 @@ module _ (e : ℕ → ℕ) (m : List ℕ) where
         ∙ ap (λ (x : List ℕ). take b k ++ x) (sweep-rest b b (omega arith))
         ∙ copy-chain b m k s few room (omega (arith, sweep-length b)) c.0 fit
         ∙ ap (λ (l : List Item). stored l m) c.1
+
+-- the front swept by itself
+pub sweep-part : (e : ℕ → ℕ) (m : List ℕ) (n i : ℕ) → i ≤ n → n ≤ length m → sweep_to e i (take n m) ++ drop n m ≡ sweep_to e i m
+unfolding sweep_to
+sweep-part e m n zero h l = take-append-drop n m
+sweep-part e m n (suc i) h l =
+    let swept = sweep_to e i (take n m) in
+    let at : i < length swept = omega (arith, sweep-length e (take n m) i, length-take-le n m l) in
+    sym (set-append_left swept (drop n m) i _ at) ∙ rw (sweep-part e m n i (omega arith) l, get_or-take n m i 0 (omega arith))
 
 -- ---- begin
 rest-item : (x w : ℕ) → item_from x (rest_word w / 4096) ≡ rested (item_from x (w / 4096))

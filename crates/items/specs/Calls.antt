@@ -1,17 +1,14 @@
 -- What the calls that read, and begin, answer.
-use Rattle.std.specs.Prelude.{ℕ, zero, suc, false, cond, List, [], get_or, set, take, drop, ltb}
+use Rattle.std.specs.Prelude.{ℕ, zero, suc, false, cond, List, [], get_or, set, take, drop, ltb, Result}
+use Rattle.std.specs.Result.{result_unwrap_or}
+use Rattle.refusal.specs.declared.Refusal.{Refusal}
+use Rattle.refusal.specs.Numbers.{refusal_in}
 use Rattle.rules.specs.Sheet.{What, text, embed, mark}
 use Rattle.rules.specs.Reading.{visible}
 use Rattle.layout.specs.declared.head.Head.{Head}
-use Rattle.items.specs.declared.Answer.{Answer}
-use Rattle.items.specs.declared.Length.{Length}
 use Rattle.layout.specs.Word.{unpack_of, pack_of}
 use Rattle.layout.specs.Chain.{item_at}
-use Rattle.layout.specs.Memory.{Carried, list_of, sound_of}
-
--- What a call that edits hands back by value; the buffers are the rest of `Carried`.
-abbrev pub answer_of : Carried → Answer
-answer_of c = record { refusal = c.refusal; head = c.head }
+use Rattle.layout.specs.Memory.{list_of, sound_of}
 
 -- The word with both flags of the transaction dropped.
 abbrev pub rest_word : ℕ → ℕ
@@ -21,6 +18,14 @@ rest_word w = pack_of (record { next = (unpack_of w).next; content = (unpack_of 
 unfoldable pub sweep_to : (ℕ → ℕ) → ℕ → List ℕ → List ℕ
 sweep_to e zero m = m
 sweep_to e (suc i) m = set (sweep_to e i m) i (e (get_or m i 0))
+
+-- What is answered of the length: the refusal's number, 0 for none, and how long; 0 beside a refusal.
+pub record Length : Type 0 where
+  pub refusal : ℕ
+  pub len : ℕ
+
+abbrev pub told : Result ℕ Refusal → Length
+told r = record { refusal = refusal_in r; len = result_unwrap_or r 0 }
 
 -- The visible length; 0 beside a refusal.
 unfoldable pub length_of : Head → List ℕ → List ℕ → Length

@@ -3,7 +3,7 @@ use Prim.Native.Nat.{ℕ, zero, suc, ◌+◌, ◌-◌, ◌/◌, ◌<◌, ◌≤�
 use native.Mathlib.Nat.{zero-add, add-zero, add_assoc}
 use native.Mathlib.Omega.{arith}
 use mathlib.Core.Path.{◌≡◌, refl, sym, ap, ◌∙◌}
-use mathlib.Core.Bool.{Bool, true, false, cond, not, ◌&&◌, ◌||◌}
+use mathlib.Core.Bool.{Bool, true, false, ◌&&◌}
 use mathlib.Core.List.{List, ◌∷◌}
 use lib.ListN.{length, get_or, take, drop}
 use lib.Dec.{eqb, ltb, leb}
@@ -15,21 +15,10 @@ use Rattle.rules.specs.Sound.{honest, held}
 use Rattle.layout.specs.declared.head.Head.{Head}
 use Rattle.layout.specs.Word.{in_range}
 use Rattle.layout.specs.Chain.{END, item_from, item_at, next_at, chain, walks}
-use Rattle.layout.specs.Memory.{list_of, flags_ok, len_of, what_ok, word_ok, each_ok, sound_of, Sound}
+use Rattle.layout.specs.Memory.{list_of, len_of, what_ok, word_ok, each_ok, sound_of, Sound}
 use Rattle.layout.proofs.Links.{walks-step, walks_out, chain-step}
 
 -- ---- one item
--- the flags, as the code tests them
-pub flags_way : (d a g : Bool) → flags_ok d a g ≡ cond d (g || not a) (not g)
-flags_way true true true = refl
-flags_way true true false = refl
-flags_way true false true = refl
-flags_way true false false = refl
-flags_way false true true = refl
-flags_way false true false = refl
-flags_way false false true = refl
-flags_way false false false = refl
-
 module _ (u : List ℕ) (used s n : ℕ) where
   pub piece-empty : n ≡ 0 → what_ok u used (text s n) ≡ false
   unfolding what_ok
@@ -53,21 +42,8 @@ pub mark-parts : (u : List ℕ) (used k v : ℕ) → what_ok u used (mark k v) �
 unfolding what_ok
 mark-parts u used k v e = (ltb-true k 16 (and_left (ltb k 16) _ e), ltb-true v 256 (and_right (ltb k 16) _ e))
 
-pub ok-len : (u : List ℕ) (used : ℕ) (w : What) → what_ok u used w ≡ true → len_of w ≤ used
-ok-len u used (text s n) e = let p = piece-parts u used s n e in omega (arith, p.1)
-ok-len u used (embed x) e = omega arith
-ok-len u used (mark k v) e = omega arith
-
 -- ---- one word
 module _ (u : List ℕ) (used w : ℕ) where
-  pub word-off : in_range w ≡ false → word_ok u used w ≡ false
-  unfolding word_ok
-  word-off e = rw e
-
-  pub word-false : honest (item_from 0 (w / 4096)).flags ≡ false → word_ok u used w ≡ false
-  unfolding word_ok
-  word-false e = and_no-right (in_range w) _ (and_no-left _ _ e)
-
   pub word_on : in_range w ≡ true → honest (item_from 0 (w / 4096)).flags ≡ true → word_ok u used w ≡ what_ok u used (item_from 0 (w / 4096)).what
   unfolding word_ok
   word_on e f = ap (λ (b : Bool). b && (honest (item_from 0 (w / 4096)).flags && what_ok u used (item_from 0 (w / 4096)).what)) e ∙ ap (λ (b : Bool). b && what_ok u used (item_from 0 (w / 4096)).what) f

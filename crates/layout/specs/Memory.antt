@@ -1,5 +1,8 @@
 -- The sheet that lies in its owner's buffers: which sheet of the rules it is, when it is sound, and how the outcome of a call is stored.
-use Rattle.std.specs.Prelude.{ℕ, zero, suc, ◌+◌, ◌/◌, ◌≤◌, ◌≡◌, Bool, true, cond, ◌&&◌, List, [], ◌∷◌, ◌++◌, length, get_or, set, take, drop, eqb, ltb, leb}
+use Rattle.std.specs.Prelude.{ℕ, zero, suc, ◌+◌, ◌/◌, ◌≤◌, ◌≡◌, Bool, true, cond, ◌&&◌, List, [], ◌∷◌, ◌++◌, length, get_or, set, take, drop, eqb, ltb, leb, Result}
+use Rattle.std.specs.Result.{result_unwrap_or}
+use Rattle.refusal.specs.declared.Refusal.{Refusal}
+use Rattle.refusal.specs.Numbers.{refusal_in}
 use Rattle.units.specs.Surrogates.{paired}
 use Rattle.rules.specs.Sheet.{What, text, embed, mark, Item}
 use Rattle.rules.specs.Sound.{honest, held}
@@ -94,6 +97,10 @@ pub record Carried : Type 0 where
   pub head : Head
   pub words : List ℕ
   pub units : List ℕ
+
+-- What an answer and the buffers beside it say: where it is refused, the head is the one that came in.
+abbrev pub leaving : Head → Result Head Refusal → List ℕ → List ℕ → Carried
+leaving h r m u = record { refusal = refusal_in r; head = result_unwrap_or r h; words = m; units = u }
 
 -- Refused: the number, and all as it was.
 abbrev pub kept_all : ℕ → Head → List ℕ → List ℕ → Carried

@@ -1,5 +1,5 @@
 -- Ranges: what is wrong with a removal, and what the rules ask for. Assumes nothing.
-use Prim.Native.Nat.{ℕ, zero, suc, ◌+◌, ◌-◌, ◌<◌, ◌≤◌}
+use Prim.Native.Nat.{ℕ, zero, suc, ◌-◌, ◌<◌, ◌≤◌}
 use native.Mathlib.Omega.{arith}
 use mathlib.Core.Path.{◌≡◌, refl, sym, ap, ◌∙◌}
 use mathlib.Core.Bool.{Bool, true, false, cond}
@@ -11,30 +11,20 @@ use Rattle.rules.specs.Calls.{Sheet, bad_range, too_long, remove_range}
 use Rattle.rules.specs.Rulings.{Ruling, seen, as_is, ruling}
 use Rattle.refusals.specs.Ranges.{removal_fault}
 
-module _ (us : List ℕ) (i n f : ℕ) (e : f ≡ cond (bad_range us i n) 2 0) where
-  pub fault-pair : (f ≡ 0 → ⊥) → f ≡ removal_fault us i n
-  fault-pair some = go (bad_range us i n) e
+-- of a range that cuts no pair its length decides
+module _ (us : List ℕ) (i n : ℕ) (e : ◌≡◌ {A = ℕ} 0 (cond (bad_range us i n) 2 0)) where
+  no-pair : removal_fault us i n ≡ cond (too_long us i n) 1 0
+  no-pair = go (bad_range us i n) e
     where
-      go : (b : Bool) → f ≡ cond b 2 0 → f ≡ cond b 2 (cond (too_long us i n) 1 0)
-      go true q = q
-      go false q = absurd (some q)
+      go : (b : Bool) → ◌≡◌ {A = ℕ} 0 (cond b 2 0) → ◌≡◌ {A = ℕ} (cond b 2 (cond (too_long us i n) 1 0)) (cond (too_long us i n) 1 0)
+      go true q = absurd (omega (arith, q))
+      go false q = refl
 
-  module _ (none : f ≡ 0) where
-    no-pair : removal_fault us i n ≡ cond (too_long us i n) 1 0
-    no-pair = go (bad_range us i n) e
-      where
-        go : (b : Bool) → f ≡ cond b 2 0 → ◌≡◌ {A = ℕ} (cond b 2 (cond (too_long us i n) 1 0)) (cond (too_long us i n) 1 0)
-        go true q = absurd (omega (arith, none))
-        go false q = refl
+  pub fault-short : length us - i < n → 1 ≡ removal_fault us i n
+  fault-short l = sym (no-pair ∙ ap (λ (b : Bool). cond b 1 0) (lt-ltb (length us - i) n l))
 
-    pub fault-zero : n ≡ 0 → 0 ≡ removal_fault us i n
-    fault-zero z = sym (no-pair ∙ ap (λ (b : Bool). cond b 1 0) (le-ltb (length us - i) n (omega arith)))
-
-    pub fault-short : 0 < n → length us < i + n → 1 ≡ removal_fault us i n
-    fault-short some l = sym (no-pair ∙ ap (λ (b : Bool). cond b 1 0) (lt-ltb (length us - i) n (omega arith)))
-
-    pub fault-none : i + n ≤ length us → 0 ≡ removal_fault us i n
-    fault-none l = sym (no-pair ∙ ap (λ (b : Bool). cond b 1 0) (le-ltb (length us - i) n (omega arith)))
+  pub fault-none : n ≤ length us - i → 0 ≡ removal_fault us i n
+  fault-none l = sym (no-pair ∙ ap (λ (b : Bool). cond b 1 0) (le-ltb (length us - i) n l))
 
 -- ---- what the rules ask for
 pub remove_quiet : (i n f : ℕ) (s : Sheet) → n ≡ 0 → f ≡ removal_fault (seen s) i n → f ≡ 0 → ruling (remove_range i n) s ≡ as_is s

@@ -1,2 +1,1 @@
 pub mod Measures
-pub mod Payloads

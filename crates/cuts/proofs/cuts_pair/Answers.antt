@@ -5,10 +5,8 @@ use Rattle.layout.specs.Memory.{list_of}
 use Rattle.cuts.proofs.Bare.{none-cut}
 use Rattle.cuts.proofs.cuts_pair.Goals as goal
 
-pub returns-then-is_plain : goal.returns-then-is_plain
-returns-then-is_plain c =
+pub returns-else-not-is_plain : goal.returns-else-not-is_plain
+returns-else-not-is_plain c =
     let a = c.args in
-    sym (none-cut a.used.now (list_of a.h a.items.now) a.index (eqb-true _ _ (sym c.is_plain.ensures ∙ c.if-is_plain.true)))
-
-pub returns : goal.returns
-returns c = c.falls_in_pair.ensures
+    let plain = c.if-not-is_plain.false in
+    rw plain (sym (none-cut a.used.now (list_of a.h a.items.now) a.index (eqb-true _ _ (sym c.is_plain.ensures ∙ plain))))

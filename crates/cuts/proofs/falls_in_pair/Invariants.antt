@@ -1,4 +1,4 @@
-use Prim.Native.Nat.{◌≤◌}
+use Prim.Native.Nat.{◌-◌}
 use mathlib.Core.Path.{◌≡◌}
 use mathlib.Core.Bool.{true}
 use lib.ListN.{length}
@@ -7,8 +7,8 @@ use Rattle.layout.specs.Chain.{chain, walks}
 use Rattle.cuts.specs.Cuts.{cut_at}
 use Rattle.cuts.proofs.falls_in_pair.Given as goal
 
-abbrev pub invariant-loop-k : goal.invariant-loop-k
-invariant-loop-k l = (l.k ≤ l.initial.k) × (walks l.initial.k l.k l.items l.at ≡ true) × (AllFit (length l.used) (chain l.k l.items l.at)) × (cut_at l.used l.rest (chain l.k l.items l.at) ≡ cut_at l.used l.initial.rest (chain l.initial.k l.items l.initial.at))
-
-abbrev pub decreases-loop-k : goal.decreases-loop-k
-decreases-loop-k l = l.k
+abbrev pub invariant-loop : goal.invariant-loop
+invariant-loop l =
+    (walks l.end (l.end - l.counter) l.items l.at ≡ true)
+    × (AllFit (length l.used) (chain (l.end - l.counter) l.items l.at))
+    × (cut_at l.used l.rest (chain (l.end - l.counter) l.items l.at) ≡ cut_at l.used l.initial.rest (chain l.end l.items l.initial.at))

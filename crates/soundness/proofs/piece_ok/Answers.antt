@@ -6,22 +6,25 @@ use mathlib.Core.Path.{sym, ◌∙◌}
 use Rattle.units.proofs.Plain.{plain-piece}
 use Rattle.layout.proofs.Soundness.{piece-empty, piece-out, piece_in}
 use Rattle.soundness.proofs.piece_ok.Goals as goal
+use Rattle.soundness.proofs.piece_ok.Goals.{then-len-eq0-via-then-len-eq0, then-len-eq0-via-else-len-eq0+then-end-texts}
 
 pub returns-then-len-eq0 : goal.returns-then-len-eq0
-returns-then-len-eq0 c = sym (piece-empty _ _ _ _ c.if-len-eq0.true)
+returns-then-len-eq0 c =
+    elim c.then-len-eq0.branch [
+      | then-len-eq0-via-then-len-eq0 w ↦ sym (piece-empty _ _ _ _ w.if-len-eq0.true)
+      | then-len-eq0-via-else-len-eq0+then-end-texts w ↦ sym (piece-out _ _ _ _ w.if-end-texts.true)
+    ]
 
-pub returns-then-start-len : goal.returns-then-start-len
-returns-then-start-len c = sym (piece-out _ _ _ _ c.if-start-len.true)
-
-pub returns-then-plain : goal.returns-then-plain
-returns-then-plain c =
-    let z : 0 < c.args.len = omega arith in
-    let l : c.args.start + c.args.len ≤ c.args.used = omega arith in
-    sym (piece_in _ _ _ _ z l ∙ plain-piece _ _ _ _ l (c.requires.plain c.if-plain.true))
-
-pub returns : goal.returns
-returns c =
+pub returns-then-texts : goal.returns-then-texts
+returns-then-texts c =
     let a = c.args in
     let z : 0 < a.len = omega arith in
-    let l : a.start + a.len ≤ a.used = omega arith in
+    let l : a.start + a.len ≤ a.texts.used = omega arith in
+    c.if-texts.true ∙ sym (piece_in _ _ _ _ z l ∙ plain-piece _ _ _ _ l (a.texts.whole c.if-texts.true))
+
+pub returns-else-texts : goal.returns-else-texts
+returns-else-texts c =
+    let a = c.args in
+    let z : 0 < a.len = omega arith in
+    let l : a.start + a.len ≤ a.texts.used = omega arith in
     rw (c.is_whole.ensures, add-sub_cancel_left a.start a.len) (sym (piece_in _ _ _ _ z l))

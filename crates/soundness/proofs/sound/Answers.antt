@@ -1,6 +1,7 @@
 -- `soundness::sound` meets its contract. Assumes nothing.
-use Rattle.soundness.proofs.Measures.{sound-is}
+use mathlib.Core.Path.{◌∙◌}
+use Rattle.soundness.proofs.Measures.{told-sound}
 use Rattle.soundness.proofs.sound.Goals as goal
 
 pub returns : goal.returns
-returns c = sound-is _ _ _ _ c.measure.ensures
+returns c = c.is_some.ensures ∙ told-sound _ _ _ _ c.measure.ensures

@@ -1,6 +1,6 @@
--- `refusals::in_pair` meets its contract. Assumes nothing.
+-- `refusals::pair_fault` meets its contract. Assumes nothing.
 use Rattle.cuts.proofs.Sounds.{used-is, sound-reads}
-use Rattle.refusals.proofs.in_pair.Goals as goal
+use Rattle.refusals.proofs.pair_fault.Goals as goal
 
 pub slice_bounds-cuts_pair-end : goal.slice_bounds-cuts_pair-end
 slice_bounds-cuts_pair-end c = used-is _ _ _ c.requires
