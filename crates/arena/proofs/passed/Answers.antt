@@ -1,14 +1,11 @@
 -- `arena::passed` meets its contract. Assumes nothing.
+use Rattle.std.proofs.Common.{inl, inr}
 use Rattle.arena.specs.Places.{passed_force}
 use Rattle.arena.proofs.passed.Goals as goal
 
 pub returns-in-Text : goal.returns-in-Text
 unfolding passed_force
-returns-in-Text c = rw c.in-Text.is
-
-pub returns-in-Embed : goal.returns-in-Embed
-unfolding passed_force
-returns-in-Embed c = rw c.in-Embed.is
+returns-in-Text c = elim c.in-Text.is [ inl w ↦ rw w.2 | inr w ↦ rw w.1 ]
 
 pub returns-in-Mark : goal.returns-in-Mark
 unfolding passed_force
