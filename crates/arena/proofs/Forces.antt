@@ -7,9 +7,8 @@ use mathlib.Core.List.{List, [], ◌∷◌, ◌++◌}
 use lib.ListN.{get_or, take}
 use borrow.Author.Tests.{ne_eqb}
 use Rattle.attrs.specs.declared.Attrs.{Attrs}
-use Rattle.attrs.specs.declared.Took.{Took}
 use Rattle.sets.specs.Sets.{Env, none, as_set}
-use Rattle.attrs.specs.Packed.{packed, env_of}
+use Rattle.attrs.specs.Packed.{Took, packed, env_of}
 use Rattle.attrs.proofs.Force.{update-packed, env-packed}
 use Rattle.rules.specs.Sheet.{Item}
 use Rattle.rules.specs.Reading.{live, set_key, pass_key, force}

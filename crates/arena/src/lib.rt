@@ -74,7 +74,9 @@ fn passed(force: Attrs, content: Content) -> Attrs
 {
     match content {
         Content::Text { .. } | Content::Embed(_) => force,
-        Content::Mark { key, value } => force.update_current_attributes(key, value).attrs,
+        Content::Mark { key, value } => force
+            .update_current_attributes(key, value)
+            .unwrap_or(force),
     }
 }
 

@@ -14,7 +14,7 @@ use arena::{At, Place, forward};
 use attrs::Attrs;
 use layout::head::Head;
 use layout::word::{Content, unpack};
-use sets::rest;
+use sets::KeyWalk;
 
 // A deleted item, or a mark that the set agrees with.
 fn passes(w: u64, attrs: Attrs) -> bool
@@ -48,10 +48,7 @@ pub fn put_marks(h: Head, items: &mut [u64], p: Place, set: Attrs) -> At
     ensures { Carried (putting (says set)) h items.old p result.head items.new result.place }
 {
     let mut at = At { head: h, place: p };
-    let mut left = set.mask;
-    while left != 0 {
-        let key = u16::trailing_zeros(left);
-        left = rest(left);
+    for key in KeyWalk::over(set.mask) {
         let value = set.get(key);
         at = put(at.head, items, at.place, Content::Mark { key, value });
     }
