@@ -1,13 +1,11 @@
 -- A copy holds the same list, and the words of a list are settled by it. Assumes nothing.
 use Prim.Native.Nat.{ℕ, zero, suc, ◌+◌, ◌<◌, ◌≤◌}
-use native.Mathlib.Nat.{zero-add}
-use native.Mathlib.Numerals.{add-one}
 use native.Mathlib.Omega.{arith}
 use mathlib.Core.Path.{◌≡◌, refl, sym, ap, ap₂, subst⁻¹, ◌∙◌}
 use mathlib.Core.Bool.{true}
 use mathlib.Core.List.{List, ◌∷◌, ◌++◌}
-use lib.ListN.{length, get_or, set, take, drop, length-append, length-drop, get_or-append}
-use lib.Seq.{length-take-le, get_or-take, paste, paste-suc}
+use lib.ListN.{length, get_or, take, drop, length-append, length-drop, get_or-append}
+use lib.Seq.{length-take-le, get_or-take}
 use borrow.Author.Tests.{lt-ltb}
 use Rattle.rules.specs.Sheet as Sheet
 use Rattle.layout.specs.declared.head.Head.{Head}
@@ -21,12 +19,7 @@ use Rattle.arena.specs.Places.{SIZE, Neat, Arena, list_of}
 use Rattle.arena.specs.Writes.{copied, content_of, word_of}
 use Rattle.arena.proofs.Neat.{neat-word}
 
--- ---- the copy, turn by turn
-pub copied-suc : (i : ℕ) (s d : List ℕ) → i < length s → i < length d → set (copied i s d) i (get_or s i 0) ≡ copied (i + 1) s d
-copied-suc i s d hs hd =
-    let p : set (paste d 0 s i) (0 + i) (get_or s i 0) ≡ paste d 0 s (suc i) = paste-suc d 0 s i 0 (omega arith) hs in
-    rw (add-one i) (ap (λ (k : ℕ). set (take i s ++ drop k d) k (get_or s i 0)) (sym (zero-add i)) ∙ p ∙ ap (λ (k : ℕ). take (suc i) s ++ drop k d) (zero-add (suc i)))
-
+-- ---- the words copied
 module _ (n : ℕ) (s d : List ℕ) (hs : n ≤ length s) (hd : n ≤ length d) where
   pub length-copied : length (copied n s d) ≡ length d
   length-copied = length-append (take n s) (drop n d) ∙ ap₂ ◌+◌ (length-take-le n s hs) (length-drop n d) ∙ omega arith

@@ -8,6 +8,7 @@ use Rattle.rules.specs.Places.{At, Move, stay, over, after, and_then, left_half,
 use Rattle.layout.specs.declared.head.Head.{Head}
 use Rattle.layout.specs.declared.word.Content.{Content}
 use Rattle.layout.specs.declared.word.Content.TheVariants.{Text, Embed, Mark}
+use Rattle.layout.specs.declared.word.Item as Word
 use Rattle.layout.specs.Word.{unpack_of}
 use Rattle.layout.specs.Chain.{END, item_at, chain, walks, head_or, last_or}
 use Rattle.arena.specs.declared.Place.{Place}
@@ -80,11 +81,13 @@ passed_force a false (Text s l) = a
 passed_force a false (Embed n) = a
 passed_force a false (Mark k v) = (update_at a k v).attrs
 
--- The place behind the item right of a place.
+-- The place behind the item right of a place, which says this ..
+abbrev pub behind : Place → Word.Item → Place
+behind p it = record { left = p.right; right = it.next; todo = p.todo - 1; force = passed_force p.force it.dead it.content }
+
+-- .. and as the copy has it.
 abbrev pub forward_of : List ℕ → Place → Place
-forward_of m p =
-    let it = unpack_of (get_or m p.right 0) in
-    record { left = p.right; right = it.next; todo = p.todo - 1; force = passed_force p.force it.dead it.content }
+forward_of m p = behind p (unpack_of (get_or m p.right 0))
 
 -- The same place once items were put in right of it: as many stand left of it as before.
 abbrev pub kept_place : Place → Head → Head → Place

@@ -8,9 +8,5 @@ pub fn copy(n: u32, from: &[u64], to: &mut [u64])
     ensures { to.new ≡ copied n from.now to.old }
 {
     let k = n as usize;
-    let mut i = 0;
-    while i < k {
-        to[i] = from[i];
-        i += 1;
-    }
+    to[..k].copy_from_slice(&from[..k]);
 }

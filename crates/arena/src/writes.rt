@@ -15,7 +15,6 @@ fn put_after(h: Head, items: &mut [u64], left: u32, right: u32, content: Content
     ensures { (result ≡ put_head h left) × (items.new ≡ put_mem items.old h.items left right content) }
 {
     let n = h.items;
-    let at = n as usize;
     let w = pack(Item {
         next: right,
         content,
@@ -24,12 +23,12 @@ fn put_after(h: Head, items: &mut [u64], left: u32, right: u32, content: Content
         gone: false,
     });
     if left == Head::END {
-        items[at] = w;
+        items[n as usize] = w;
         return h.grown(n, n + 1, h.units);
     }
     let l = left as usize;
     let v = relink(items[l], n);
-    items[at] = w;
+    items[n as usize] = w;
     items[l] = v;
     h.grown(h.first, n + 1, h.units)
 }
@@ -40,15 +39,13 @@ pub fn put(h: Head, items: &mut [u64], p: Place, content: Content) -> At
     ensures { Carried (put_new (what_of content)) h items.old p result.head items.new result.place }
 {
     let head = put_after(h, items, p.left, p.right, content);
-    let before = p.force;
-    let force = passed(before, content);
+    let force = passed(p.force, content);
     At {
         head,
         place: Place {
             left: h.items,
-            right: p.right,
-            todo: p.todo,
             force,
+            ..p
         },
     }
 }
@@ -60,39 +57,27 @@ pub fn delete(items: &mut [u64], n: u32)
 {
     let i = n as usize;
     let it = unpack(items[i]);
-    let content = it.content;
     items[i] = pack(Item {
-        next: it.next,
-        content,
         dead: true,
-        added: it.added,
         gone: true,
+        ..it
     });
 }
 
-fn left_half(c: Content, n: u32) -> Content
-    ensures { result ≡ left_text n c }
-{
-    match c {
-        Content::Text { start, len: _ } => Content::Text { start, len: n },
-        Content::Embed(_) => c,
-        Content::Mark { key: _, value: _ } => c,
-    }
-}
-
-fn right_half(c: Content, n: u32) -> Content
+// A text in two after n units. What is no text stays whole.
+fn halves(c: Content, n: u32) -> (Content, Content)
     requires { Within n c }
-    ensures { result ≡ right_text n c }
+    ensures { (result.0 ≡ left_text n c) × (result.1 ≡ right_text n c) }
 {
     match c {
-        Content::Text { start, len } => {
+        Content::Text { start, len } => (
+            Content::Text { start, len: n },
             Content::Text {
                 start: start + n,
                 len: len - n,
-            }
-        }
-        Content::Embed(_) => c,
-        Content::Mark { key: _, value: _ } => c,
+            },
+        ),
+        Content::Embed(_) | Content::Mark { .. } => (c, c),
     }
 }
 
@@ -103,27 +88,17 @@ fn cut(h: Head, items: &mut [u64], x: u32, n: u32) -> Head
 {
     let new = h.items;
     let i = x as usize;
-    let at = new as usize;
     let it = unpack(items[i]);
-    let c = it.content;
-    let a = left_half(c, n);
-    let b = right_half(c, n);
-    let v = pack(Item {
-        next: it.next,
-        content: b,
-        dead: it.dead,
-        added: it.added,
-        gone: it.gone,
+    let (left, right) = halves(it.content, n);
+    items[new as usize] = pack(Item {
+        content: right,
+        ..it
     });
-    let w = pack(Item {
+    items[i] = pack(Item {
         next: new,
-        content: a,
-        dead: it.dead,
-        added: it.added,
-        gone: it.gone,
+        content: left,
+        ..it
     });
-    items[at] = v;
-    items[i] = w;
     h.grown(h.first, new + 1, h.units)
 }
 
@@ -133,14 +108,11 @@ pub fn split(h: Head, items: &mut [u64], p: Place, n: u32) -> At
     ensures { Carried (halving n) h items.old p result.head items.new result.place }
 {
     let head = cut(h, items, p.right, n);
-    let force = p.force;
     At {
         head,
         place: Place {
-            left: p.left,
-            right: p.right,
             todo: p.todo + 1,
-            force,
+            ..p
         },
     }
 }

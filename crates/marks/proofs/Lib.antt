@@ -3,4 +3,3 @@ pub mod Opens
 pub mod Puts
 pub mod Rooms
 pub mod Settles
-pub mod Words

@@ -1,55 +1,22 @@
--- What is in force at a place, as the code keeps it, and what opening leaves to do. Assumes nothing.
-use Prim.Native.Nat.{ℕ, zero, suc, ◌+◌, ◌-◌, ◌<◌, ◌≤◌}
-use native.Mathlib.Omega.{arith}
-use mathlib.Core.Path.{◌≡◌, refl, ap, ◌∙◌}
-use mathlib.Core.Bool.{Bool, true, false, cond, not}
+-- What opening leaves to do. Assumes nothing.
+use Prim.Native.Nat.{ℕ, ◌+◌, ◌≤◌}
+use mathlib.Core.Path.{◌≡◌, ap, ◌∙◌}
 use mathlib.Core.List.{List}
-use borrow.Author.Tests.{ne_eqb}
-use lib.ListN.{get_or, take}
 use Rattle.attrs.specs.declared.Attrs.{Attrs}
 use Rattle.sets.specs.Sets.{Set, none, opened, former, completed}
 use Rattle.attrs.specs.Packed.{says, env_of, packed, onto}
-use Rattle.attrs.proofs.Force.{env-packed, says-opened, says-former, says-unset}
-use Rattle.rules.specs.Reading.{live, set_key, force}
+use Rattle.attrs.proofs.Force.{says-opened, says-former, says-unset}
 use Rattle.rules.specs.Places.{At, Move, after, and_then, put_marks}
 use Rattle.rules.specs.Edits.{opening, settled}
 use Rattle.laws.proofs.Room.{put_marks-next}
 use Rattle.layout.specs.declared.head.Head.{Head}
-use Rattle.layout.specs.declared.word.Content.{Content}
-use Rattle.layout.specs.declared.word.Content.TheVariants.{Text, Embed, Mark}
-use Rattle.layout.specs.Word.{what_of, unpack_of}
-use Rattle.layout.specs.Chain.{next_at, chain, walks}
-use Rattle.layout.proofs.Links.{walks_parts}
 use Rattle.arena.specs.declared.Place.{Place}
-use Rattle.arena.specs.Places.{InRange, Neat, in_force, left_of, right_of, placed, Standing, Carried, Going, in_turn}
+use Rattle.arena.specs.Places.{left_of, right_of, placed, Standing, Carried, Going, in_turn}
 use Rattle.arena.proofs.Carried.{carried-then, carried-as, going_done, then_assoc}
+use Rattle.arena.proofs.Forces.{force_env}
 use Rattle.marks.specs.Moves.{settling, putting, opener}
 use Rattle.marks.specs.Opens.{Opens}
 use Rattle.marks.proofs.Rooms.{carried-room}
-
--- ---- no key over 15 is in force
-still : (k : ℕ) (d : Bool) (c : Content) → 16 ≤ k → InRange c → cond (not d) (set_key k (what_of c) 0) 0 ≡ 0
-still k true c l r = refl
-still k false (Text s n) l r = refl
-still k false (Embed x) l r = refl
-still k false (Mark j v) l r = rw (ne_eqb k j (λ e. omega (arith, r.0)))
-
-far_none : (b : ℕ) (m : List ℕ) → ((n : ℕ) → n < b → Neat (get_or m n 0)) → (k : ℕ) → 16 ≤ k → (j f s : ℕ) → walks b f m s ≡ true → force live k 0 (take j (chain f m s)) ≡ 0
-unfolding chain
-far_none b m neat k l zero f s w = refl
-far_none b m neat k l (suc j) zero s w = refl
-far_none b m neat k l (suc j) (suc f) s w =
-    let p = walks_parts b f m s w in
-    let it = unpack_of (get_or m s 0) in
-    ap (λ (v : ℕ). force live k v (take j (chain f m (next_at m s)))) (still k it.dead it.content l (neat s p.0).range)
-    ∙ far_none b m neat k l j f (next_at m s) p.1
-
--- the code's set says just what is in force
-pub force-is : {h : Head} {m : List ℕ} {p : Place} → Standing h m p → env_of p.force ≡ after none (left_of h m p)
-unfolding in_force
-force-is {h} {m} {p} s =
-    let a = s.arena in
-    ap env_of s.force ∙ env-packed (after none (left_of h m p)) (λ k l. far_none h.items m a.neat k l (h.items - p.todo) h.items h.first a.walk)
 
 -- ---- opening
 module _ {h : Head} {m : List ℕ} {p : Place} (s : Standing h m p) (a : Attrs) where
@@ -57,7 +24,7 @@ module _ {h : Head} {m : List ℕ} {p : Place} (s : Standing h m p) (a : Attrs) 
       → Carried (putting (says d)) h m p h₁ m₁ p₁ → Opens (says a) h m p h₁ m₁ p₁ r
   opens d r ed er c =
       let E = after none (left_of h m p) in
-      let e = force-is s in
+      let e = force_env s in
       let sd : says d ≡ opened (says a) E = ap says ed ∙ says-opened a (env_of p.force) ∙ ap (opened (says a)) e in
       record {
         put = carried-as (opener (says a)) c (ap (λ (x : Set). put_marks x (right_of h m p) h.items) sd);
@@ -66,7 +33,7 @@ module _ {h : Head} {m : List ℕ} {p : Place} (s : Standing h m p) (a : Attrs) 
 
   -- the set completed by the code is the rule's
   pub completes : (b : Attrs) → b ≡ onto a (completed (says a) (env_of p.force)) → says b ≡ completed (says a) (after none (left_of h m p))
-  completes b eb = ap says eb ∙ says-unset a p.force ∙ ap (completed (says a)) (force-is s)
+  completes b eb = ap says eb ∙ says-unset a p.force ∙ ap (completed (says a)) (force_env s)
 
 module _ {a : Set} {h : Head} {m : List ℕ} {p : Place} {h₁ : Head} {m₁ : List ℕ} {p₁ : Place} {r : Attrs} (o : Opens a h m p h₁ m₁ p₁ r) where
   -- what is left to do is to be done with what is remembered

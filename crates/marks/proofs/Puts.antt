@@ -4,14 +4,13 @@ use native.Mathlib.Numerals.{add-one}
 use native.Mathlib.Omega.{arith}
 use mathlib.Core.Path.{◌≡◌, refl, sym, ap, ◌∙◌}
 use mathlib.Core.List.{List, [], ◌∷◌}
-use lib.Count.{count_trailing_zeros}
 use lib.ListN.{length}
 use Rattle.attrs.specs.declared.Attrs.{Attrs}
 use Rattle.sets.specs.Sets.{is, Set, Env, none, keys}
-use Rattle.sets.specs.Bits.{keys_of, Rest}
+use Rattle.sets.specs.Bits.{keys_of}
 use Rattle.attrs.specs.Packed.{says, Got}
 use Rattle.sets.proofs.Keys.{each, keys_none, keys-le}
-use Rattle.attrs.proofs.Slots.{each-keys, key-says, Part, part_all, Turn, turn}
+use Rattle.attrs.proofs.Slots.{each-keys, key-says, Part, part_all, Turn}
 use Rattle.rules.specs.Sheet.{Item, mark, new}
 use Rattle.rules.specs.Places.{after, put, mark_for, marks}
 use Rattle.rules.specs.Edits.{put_new}
@@ -67,16 +66,12 @@ module _ {h : Head} {m : List ℕ} {p : Place} {set : Attrs} {left : ℕ} {h₁ 
       let no_more : h₁.items + 0 ≡ h₁.items = omega arith in
       going-stopped (going-same o.going staying (ap (λ (ks : List ℕ). putting_at ks (says set) E R h₁.items) none_left ∙ (λ i. record { left = []; right = R; next = no_more i })))
 
-  module _ (some : left ≡ 0 → ⊥) {r : ℕ} (x : Rest left r) {v : ℕ} (g : Got set (count_trailing_zeros 16 left) v) where
-    met : Turn set.mask left (count_trailing_zeros 16 left) r
-    met = turn r o.part some x
-
-    pub marking-asks : Puttable h₁ m₁ p₁ (Mark (count_trailing_zeros 16 left) v)
+  module _ {k r : ℕ} (met : Turn set.mask left k r) {v : ℕ} (g : Got set k v) where
+    pub marking-asks : Puttable h₁ m₁ p₁ (Mark k v)
     marking-asks = record { stands = o.going.stands; room = omega (arith, o.room, ap length met.first); range = (met.lt, g.small) }
 
-    pub marking-turn : {h₂ : Head} {m₂ : List ℕ} {p₂ : Place} → Carried (put_new (what_of (Mark (count_trailing_zeros 16 left) v))) h₁ m₁ p₁ h₂ m₂ p₂ → Marking h m p set r h₂ m₂ p₂
+    pub marking-turn : {h₂ : Head} {m₂ : List ℕ} {p₂ : Place} → Carried (put_new (what_of (Mark k v))) h₁ m₁ p₁ h₂ m₂ p₂ → Marking h m p set r h₂ m₂ p₂
     marking-turn c =
-        let k = count_trailing_zeros 16 left in
         let E = after none (left_of h₁ m₁ p₁) in
         let R = right_of h₁ m₁ p₁ in
         let value : says set k ≡ is v = key-says set k met.lt met.there ∙ ap is (sym g.is) in

@@ -14,7 +14,7 @@ use arena::{At, Place, forward};
 use attrs::Attrs;
 use layout::head::Head;
 use layout::word::{Content, unpack};
-use sets::rest;
+use sets::KeyWalk;
 
 // A deleted item, or a mark that the set agrees with.
 fn passes(w: u64, attrs: Attrs) -> bool
@@ -24,10 +24,8 @@ fn passes(w: u64, attrs: Attrs) -> bool
     if it.dead {
         return true;
     }
-    let c = it.content;
-    match c {
-        Content::Text { start: _, len: _ } => false,
-        Content::Embed(_) => false,
+    match it.content {
+        Content::Text { .. } | Content::Embed(_) => false,
         Content::Mark { key, value } => attrs.agrees(key, value),
     }
 }
@@ -37,12 +35,8 @@ pub fn minimize_attr_changes(h: Head, items: &[u64], p: Place, attrs: Attrs) -> 
     ensures { Carried (settling (says attrs)) h items.now p h items.now result }
 {
     let mut at = p;
-    while at.todo > 0 {
-        let right = at.right;
-        let i = right as usize;
-        if !passes(items[i], attrs) {
-            return at;
-        }
+    // The count is the place's own, which callers read.
+    while at.todo > 0 && passes(items[at.right as usize], attrs) {
         at = forward(items, at);
     }
     at
@@ -54,39 +48,28 @@ pub fn put_marks(h: Head, items: &mut [u64], p: Place, set: Attrs) -> At
     ensures { Carried (putting (says set)) h items.old p result.head items.new result.place }
 {
     let mut at = At { head: h, place: p };
-    let mut left = set.mask;
-    while left != 0 {
-        let key = u16::trailing_zeros(left);
-        left = rest(left);
+    for key in KeyWalk::over(set.mask) {
         let value = set.get(key);
-        let head = at.head;
-        let place = at.place;
-        at = put(head, items, place, Content::Mark { key, value });
+        at = put(at.head, items, at.place, Content::Mark { key, value });
     }
     at
 }
 
-// A place behind marks that were put, and the values that were in force before them.
+// A place, its head, and the values that are still to be put in force again there.
 #[derive(Clone, Copy)]
 pub struct Opened {
-    pub head: Head,
-    pub place: Place,
+    pub at: At,
     pub remembered: Attrs,
 }
 
 pub fn insert_attributes(h: Head, items: &mut [u64], p: Place, attrs: Attrs) -> Opened
     requires { Standing h items.old p × (h.items + 16 ≤ SIZE) }
-    ensures { Opens (says attrs) h items.old p result.head items.new result.place result.remembered }
+    ensures { Opens (says attrs) h items.old p result.at.head items.new result.at.place result.remembered }
 {
-    let force = p.force;
-    let differing = attrs.differing(force);
-    let remembered = attrs.remembered(force);
-    let at = put_marks(h, items, p, differing);
-    let head = at.head;
-    let place = at.place;
+    let differing = attrs.differing(p.force);
+    let remembered = attrs.remembered(p.force);
     Opened {
-        head,
-        place,
+        at: put_marks(h, items, p, differing),
         remembered,
     }
 }
@@ -99,43 +82,27 @@ fn dropped(w: u64, remembered: Attrs) -> Attrs
     if it.dead {
         return remembered;
     }
-    let c = it.content;
-    match c {
-        Content::Text { start: _, len: _ } => remembered,
-        Content::Embed(_) => remembered,
-        Content::Mark { key, value: _ } => remembered.without(key),
+    match it.content {
+        Content::Text { .. } | Content::Embed(_) => remembered,
+        Content::Mark { key, .. } => remembered.without(key),
     }
-}
-
-// A place, and what is still to be put in force again there.
-#[derive(Clone, Copy)]
-struct Left {
-    place: Place,
-    remembered: Attrs,
 }
 
 // Past deleted items and marks that restore a remembered value.
-fn drop_restored(h: Head, items: &[u64], p: Place, remembered: Attrs) -> Left
+fn drop_restored(h: Head, items: &[u64], p: Place, remembered: Attrs) -> Opened
     requires { Standing h items.now p }
-    ensures { Going (closing (says remembered)) h items.now p (putting (says result.remembered)) h items.now result.place }
+    ensures head { result.at.head ≡ h }
+    ensures going { Going (closing (says remembered)) h items.now p (putting (says result.remembered)) h items.now result.at.place }
 {
     let mut at = p;
     let mut left = remembered;
-    while at.todo > 0 {
-        let right = at.right;
-        let i = right as usize;
-        let w = items[i];
-        if !passes(w, left) {
-            return Left {
-                place: at,
-                remembered: left,
-            };
-        }
-        left = dropped(w, left);
+    // The count is the place's own, which callers read.
+    while at.todo > 0 && passes(items[at.right as usize], left) {
+        left = dropped(items[at.right as usize], left);
         at = forward(items, at);
     }
-    Left {
-        place: at,
+    Opened {
+        at: At { head: h, place: at },
         remembered: left,
     }
 }
@@ -145,7 +112,5 @@ pub fn insert_negated_attributes(h: Head, items: &mut [u64], p: Place, remembere
     ensures { Carried (closing (says remembered)) h items.old p result.head items.new result.place }
 {
     let stop = drop_restored(h, items, p, remembered);
-    let place = stop.place;
-    let left = stop.remembered;
-    put_marks(h, items, place, left)
+    put_marks(h, items, stop.at.place, stop.remembered)
 }

@@ -1,30 +1,19 @@
 -- The turns of the walk to the end of a gap, and of the walk that tidies. Assumes nothing.
-use Prim.Native.Nat.{ℕ, suc, ◌/◌, ◌<◌, ◌≤◌}
+use Prim.Native.Nat.{ℕ, suc, ◌<◌, ◌≤◌}
 use mathlib.Core.Path.{◌≡◌, refl, ap}
-use mathlib.Core.Bool.{true, false, cond, not, ◌&&◌}
+use mathlib.Core.Bool.{true, false, cond}
 use mathlib.Core.List.{List, ◌∷◌}
 use Rattle.sets.specs.Sets.{Env}
 use Rattle.rules.specs.Sheet.{is_mark}
 use Rattle.rules.specs.Places.{Move}
-use Rattle.rules.specs.Edits.{idle}
 use Rattle.layout.specs.declared.head.Head.{Head}
-use Rattle.layout.specs.declared.word.Item as Word
-use Rattle.layout.specs.Word.{what_of, unpack_of}
-use Rattle.layout.specs.Chain.{item_from, item_at}
+use Rattle.layout.specs.Chain.{item_at}
 use Rattle.arena.specs.declared.Place.{Place}
-use Rattle.arena.specs.Places.{Carried, Going, right_of, forward_of, staying}
+use Rattle.arena.specs.Places.{Carried, Going, forward_of, staying}
 use Rattle.arena.specs.Writes.{kill_mem}
-use Rattle.arena.proofs.Walks.{going-same, going_end, going-here, going-ahead, going-stopped}
+use Rattle.arena.proofs.Walks.{going_end, going-here, going-ahead, going-stopped}
 use Rattle.removal.specs.Tidies.{ending, idle_item, tidy_first}
 use Rattle.removal.proofs.Deletes.{going-if}
-
--- ---- what the code reads off an item's word
-module _ (w : ℕ) (it : Word.Item) (u : it ≡ unpack_of w) where
-  pub mark-is : is_mark (what_of it.content) ≡ is_mark (item_from 0 (w / 4096)).what
-  mark-is = ap (λ (x : Word.Item). is_mark (what_of x.content)) u
-
-  pub idle-is : (s e : Env) → (not it.dead && idle s e (what_of it.content)) ≡ idle_item s e (item_from 0 (w / 4096))
-  idle-is s e = ap (λ (x : Word.Item). not x.dead && idle s e (what_of x.content)) u
 
 -- ---- to the end of a gap
 module _ {f : Move} {h : Head} {m : List ℕ} {p : Place} {h₁ : Head} {m₁ : List ℕ} {p₁ : Place} (o : Going f h m p ending h₁ m₁ p₁) where
@@ -40,11 +29,6 @@ module _ {f : Move} {h : Head} {m : List ℕ} {p : Place} {h₁ : Head} {m₁ : 
 
 -- ---- tidying
 module _ {f : Move} {h : Head} {m : List ℕ} {p : Place} (k : ℕ) (s e : Env) {h₁ : Head} {m₁ : List ℕ} {p₁ : Place} (o : Going f h m p (tidy_first k s e) h₁ m₁ p₁) where
-  pub tidied-all : k ≡ 0 → Carried f h m p h₁ m₁ p₁
-  tidied-all z =
-      let R = right_of h₁ m₁ p₁ in
-      going-stopped (going-same o staying (ap (λ (j : ℕ). tidy_first j s e s R h₁.items) z))
-
   pub tidied-past : 0 < p₁.todo → (j : ℕ) → k ≡ suc j → (n : List ℕ) → n ≡ cond (idle_item s e (item_at m₁ p₁.right)) (kill_mem m₁ p₁.right) m₁ → (q : Place) → q ≡ forward_of n p₁
       → Going f h m p (tidy_first j s e) h₁ n q
   tidied-past more j z n en q eq =

@@ -15,17 +15,7 @@ use arena::writes::{delete, split};
 use arena::{At, Place, forward};
 use attrs::Attrs;
 use layout::head::Head;
-use layout::word::{Content, Item, is_mark, shown_len, unpack};
-
-// A branch of its own, so that the walks go straight on.
-fn delete_if(items: &mut [u64], n: u32, yes: bool)
-    requires { n < length items.old }
-    ensures { items.new ≡ cond yes (kill_mem items.old n) items.old }
-{
-    if yes {
-        delete(items, n);
-    }
-}
+use layout::word::{Content, is_mark, shown_len, unpack};
 
 // The next `len` live units are deleted; a text that they end in is split. The place is where that ends.
 fn delete_units(h: Head, items: &mut [u64], p: Place, len: u32) -> At
@@ -34,36 +24,35 @@ fn delete_units(h: Head, items: &mut [u64], p: Place, len: u32) -> At
 {
     let mut at = p;
     let mut rest = len;
+    // The count is the place's own, which callers read.
     while at.todo > 0 {
         if rest == 0 {
             return At { head: h, place: at };
         }
-        let right = at.right;
-        let i = right as usize;
-        let it = unpack(items[i]);
-        let w = shown_len(it);
+        let w = shown_len(unpack(items[at.right as usize]));
         if rest < w {
             let cut = split(h, items, at, rest);
-            let head = cut.head;
-            let half = cut.place;
-            let first = half.right;
-            delete(items, first);
-            let place = forward(items, half);
-            return At { head, place };
+            delete(items, cut.place.right);
+            let place = forward(items, cut.place);
+            return At {
+                head: cut.head,
+                place,
+            };
         }
-        delete_if(items, right, w > 0);
+        if w > 0 {
+            delete(items, at.right);
+        }
         rest -= w;
         at = forward(items, at);
     }
     At { head: h, place: at }
 }
 
-// Whether what is right of an item, live or deleted, is in the same gap.
-fn stays_in_gap(it: Item) -> bool
-    ensures { result ≡ is_mark (what_of it.content) }
+// A mark, live or deleted: what is right of it is in the same gap.
+fn stays_in_gap(w: u64) -> bool
+    ensures { result ≡ is_mark (item_from 0 (w / 4096)).what }
 {
-    let c = it.content;
-    is_mark(c)
+    is_mark(unpack(w).content)
 }
 
 // The place before the next text or embed, live or deleted, or the list's end.
@@ -72,13 +61,8 @@ fn gap_end(h: Head, items: &[u64], p: Place) -> Place
     ensures { Carried ending h items.now p h items.now result }
 {
     let mut at = p;
-    while at.todo > 0 {
-        let right = at.right;
-        let i = right as usize;
-        let it = unpack(items[i]);
-        if !stays_in_gap(it) {
-            return at;
-        }
+    // The count is the place's own, which callers read.
+    while at.todo > 0 && stays_in_gap(items[at.right as usize]) {
         at = forward(items, at);
     }
     at
@@ -88,10 +72,7 @@ fn gap_end(h: Head, items: &[u64], p: Place) -> Place
 fn does_nothing(key: u32, value: u32, start: Attrs, end: Attrs) -> bool
     ensures { result ≡ idle (env_of start) (env_of end) (mark key value) }
 {
-    if value == end.get(key) {
-        return value == start.get(key);
-    }
-    true
+    value != end.get(key) || value == start.get(key)
 }
 
 fn is_idle(w: u64, start: Attrs, end: Attrs) -> bool
@@ -101,10 +82,8 @@ fn is_idle(w: u64, start: Attrs, end: Attrs) -> bool
     if it.dead {
         return false;
     }
-    let c = it.content;
-    match c {
-        Content::Text { len: _, start: _ } => false,
-        Content::Embed(_) => false,
+    match it.content {
+        Content::Text { .. } | Content::Embed(_) => false,
         Content::Mark { key, value } => does_nothing(key, value, start, end),
     }
 }
@@ -115,11 +94,11 @@ fn tidy_until(h: Head, items: &mut [u64], p: Place, stop: u32, start: Attrs, end
     ensures { Carried (tidy_first (p.todo - stop) (env_of start) (env_of end)) h items.old p h items.new result }
 {
     let mut at = p;
+    // The count is the place's own, which callers read.
     while at.todo > stop {
-        let right = at.right;
-        let i = right as usize;
-        let yes = is_idle(items[i], start, end);
-        delete_if(items, right, yes);
+        if is_idle(items[at.right as usize], start, end) {
+            delete(items, at.right);
+        }
         at = forward(items, at);
     }
     at
@@ -132,10 +111,8 @@ fn clean_format_gap(h: Head, items: &mut [u64], start: Place, stop: Place) -> Pl
     ensures { Carried (tidying (start.todo - stop.todo)) h items.old start h items.new result }
 {
     let end = gap_end(h, items, stop);
-    let a = start.force;
-    let b = end.force;
-    let tidied = tidy_until(h, items, start, stop.todo, a, b);
-    let _ = tidy_until(h, items, tidied, end.todo, a, b);
+    let tidied = tidy_until(h, items, start, stop.todo, start.force, end.force);
+    let _ = tidy_until(h, items, tidied, end.todo, start.force, end.force);
     tidied
 }
 
@@ -144,11 +121,12 @@ fn delete_and_tidy(h: Head, items: &mut [u64], p: Place, len: u32) -> At
     ensures { Carried (delete_tidy len) h items.old p result.head items.new result.place }
 {
     let done = delete_units(h, items, p, len);
-    let head = done.head;
-    let stop = done.place;
-    let start = p.kept(h, head);
-    let place = clean_format_gap(head, items, start, stop);
-    At { head, place }
+    let start = p.kept(h, done.head);
+    let place = clean_format_gap(done.head, items, start, done.place);
+    At {
+        head: done.head,
+        place,
+    }
 }
 
 // Rule Remove, from its place: it tidies only where something is in force.
@@ -156,8 +134,7 @@ pub fn remove_here(h: Head, items: &mut [u64], p: Place, len: u32) -> At
     requires { Standing h items.old p × (h.items < SIZE) }
     ensures { Carried (remove_here len) h items.old p result.head items.new result.place }
 {
-    let force = p.force;
-    if force.is_empty() {
+    if p.force.is_empty() {
         return delete_units(h, items, p, len);
     }
     delete_and_tidy(h, items, p, len)

@@ -1,20 +1,12 @@
 -- `arena::writes::put_after` meets its contract: the stores are those of `put_mem`. Assumes nothing.
 use Rattle.arena.specs.Writes.{front_mem, after_mem}
 use borrow.Author.Tests.{ne_eqb}
-use lib.ListN.{length-set}
 use mathlib.Core.Path.{refl}
-use native.Mathlib.Omega.{arith}
 use Rattle.arena.proofs.writes.put_after.Goals as goal
 
 pub returns-then-left-eq-END : goal.returns-then-left-eq-END
 unfolding front_mem
 returns-then-left-eq-END c = rw (c.grown.ensures, c.if-left-eq-END.true, c.pack-w.ensures) (refl, refl)
-
-pub bounds-items-l : goal.bounds-items-l
-bounds-items-l c = omega (arith, c.requires.2 c.if-left-eq-END.false, c.requires.1)
-
-pub bounds-items-l-2 : goal.bounds-items-l-2
-bounds-items-l-2 c = simp length-set (omega (arith, c.requires.2 c.if-left-eq-END.false, c.requires.1))
 
 pub returns : goal.returns
 unfolding after_mem
