@@ -2,20 +2,18 @@
 ghost use Rattle.std.specs.Prelude.{◌≡◌, ◌+◌, ◌<◌};
 ghost use Rattle.rules.specs.Sheet.{width};
 ghost use Rattle.layout.specs.Word.{what_of};
-ghost use Rattle.encoding.specs.Words.{none_found};
-ghost use Rattle.assembling.specs.Steps.{load, action_op, turned_by, text_by, embed_by, mark_by, pass_by, fresh_asm};
+ghost use Rattle.assembling.specs.Steps.{load, run_op, turned_by, text_by, embed_by, mark_by, pass_by, fresh_asm};
 
 use crate::marks::{changed, mark_turn, past, pending_of};
-use crate::runs::{Action, Sight, Turn, grow, inserted, starts};
+use crate::runs::{Kind, Run, Sight, Turn, grow, inserted};
 use attrs::Attrs;
-use encoding::{Found, MaybeOp};
 use layout::word::Content;
-use ops::delta::{Inserted, Op};
+use ops::delta::{DeltaOp, Inserted, Op};
 
 // `units` counts the text told so far: an insertion's text begins there. `attrs` are pending; `current` are in force now, `old` were.
 #[derive(Clone, Copy)]
 pub struct Assembler {
-    pub action: Action,
+    pub run: Option<Run>,
     pub units: u32,
     pub attrs: Attrs,
     pub current: Attrs,
@@ -24,55 +22,28 @@ pub struct Assembler {
 
 #[derive(Clone, Copy)]
 pub struct Passed {
-    pub first: MaybeOp,
-    pub second: MaybeOp,
+    pub first: Option<DeltaOp>,
+    pub second: Option<DeltaOp>,
     pub asm: Assembler,
 }
 
-fn none() -> MaybeOp
-    ensures { result ≡ none_found }
-{
-    MaybeOp {
-        op: Found::Nothing,
-        attrs: Attrs::empty(),
-    }
-}
-
 // The operation of the run, if there is one.
-pub fn add_op(a: Assembler) -> MaybeOp
-    ensures { result ≡ action_op a.action a }
+pub fn add_op(a: Assembler) -> Option<DeltaOp>
+    ensures { result ≡ run_op a.run a }
 {
-    let action = a.action;
-    let current = a.current;
-    let pending = a.attrs;
-    match action {
-        Action::Idle => none(),
-        Action::Inserting(n) => {
-            let part = Inserted::Text {
+    let Run { kind, width } = a.run?;
+    let (op, attrs) = match kind {
+        Kind::Inserting => {
+            let text = Inserted::Text {
                 start: a.units,
-                len: n,
+                len: width,
             };
-            let op = Op::Insert(part);
-            MaybeOp {
-                op: Found::Is(op),
-                attrs: current,
-            }
+            (Op::Insert(text), a.current)
         }
-        Action::Deleting(n) => {
-            let op = Op::Delete(n);
-            MaybeOp {
-                op: Found::Is(op),
-                attrs: Attrs::empty(),
-            }
-        }
-        Action::Retaining(n) => {
-            let op = Op::Retain(n);
-            MaybeOp {
-                op: Found::Is(op),
-                attrs: pending,
-            }
-        }
-    }
+        Kind::Deleting => (Op::Delete(width), Attrs::empty()),
+        Kind::Retaining => (Op::Retain(width), a.attrs),
+    };
+    Some(DeltaOp { op, attrs })
 }
 
 // The assembler with its next run; the run that ends is told.
@@ -80,33 +51,20 @@ fn turned_by(a: Assembler, t: Turn) -> Passed
     requires { load a < 4294967296 }
     ensures { result ≡ turned_by a t }
 {
-    let action = t.action;
-    let attrs = a.attrs;
-    let current = a.current;
-    let old = a.old;
-    if t.ends {
-        let last = a.action;
-        return Passed {
+    match t {
+        Turn::Goes(run) => Passed {
+            first: None,
+            second: None,
+            asm: Assembler { run, ..a },
+        },
+        Turn::Starts(run) => Passed {
             first: add_op(a),
-            second: none(),
+            second: None,
             asm: Assembler {
-                action,
-                units: a.units + inserted(last),
-                attrs,
-                current,
-                old,
+                run,
+                units: a.units + inserted(a.run),
+                ..a
             },
-        };
-    }
-    Passed {
-        first: none(),
-        second: none(),
-        asm: Assembler {
-            action,
-            units: a.units,
-            attrs,
-            current,
-            old,
         },
     }
 }
@@ -115,8 +73,7 @@ fn pass_text(a: Assembler, s: Sight, width: u32) -> Passed
     requires { load a + width < 4294967296 }
     ensures { result ≡ text_by s.was s.is width a }
 {
-    let action = a.action;
-    turned_by(a, grow(s, width, action))
+    turned_by(a, grow(s, width, a.run))
 }
 
 // A new embed is told at once; any other is one unit like a text's.
@@ -124,49 +81,33 @@ fn pass_embed(a: Assembler, s: Sight, number: u32) -> Passed
     requires { load a + 1 < 4294967296 }
     ensures { result ≡ embed_by s.was s.is number a }
 {
-    if s.was {
+    if s.was || !s.is {
         return pass_text(a, s, 1);
     }
-    if !s.is {
-        return pass_text(a, s, 1);
+    let op = Op::Insert(Inserted::Embed(number));
+    Passed {
+        second: Some(DeltaOp {
+            op,
+            attrs: a.current,
+        }),
+        ..turned_by(a, Turn::Starts(None))
     }
-    let p = turned_by(a, starts(Action::Idle));
-    let first = p.first;
-    let asm = p.asm;
-    let embed = Inserted::Embed(number);
-    let op = Op::Insert(embed);
-    let current = a.current;
-    let second = MaybeOp {
-        op: Found::Is(op),
-        attrs: current,
-    };
-    Passed { first, second, asm }
 }
 
 fn pass_mark(a: Assembler, s: Sight, key: u32, value: u32) -> Passed
     requires { load a < 4294967296 }
     ensures { result ≡ mark_by s.was s.is key value a }
 {
-    let action = a.action;
-    let attrs = a.attrs;
-    let current = a.current;
-    let old = a.old;
     let p = pending_of(a, s, key, value);
-    let t = turned_by(a, mark_turn(p, s.is, action));
-    let first = t.first;
-    let second = t.second;
-    let next = t.asm;
-    let going = next.action;
+    let told = turned_by(a, mark_turn(p, s.is, a.run));
     Passed {
-        first,
-        second,
         asm: Assembler {
-            action: going,
-            units: next.units,
-            attrs: changed(attrs, p, key),
-            current: past(current, s.is, key, value),
-            old: past(old, s.was, key, value),
+            attrs: changed(a.attrs, p, key),
+            current: past(a.current, s.is, key, value),
+            old: past(a.old, s.was, key, value),
+            ..told.asm
         },
+        ..told
     }
 }
 
@@ -186,12 +127,13 @@ impl Assembler {
     pub fn fresh() -> Assembler
         ensures { result ≡ fresh_asm }
     {
+        let empty = Attrs::empty();
         Assembler {
-            action: Action::Idle,
+            run: None,
             units: 0,
-            attrs: Attrs::empty(),
-            current: Attrs::empty(),
-            old: Attrs::empty(),
+            attrs: empty,
+            current: empty,
+            old: empty,
         }
     }
 }

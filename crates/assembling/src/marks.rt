@@ -3,10 +3,10 @@ ghost use Rattle.std.specs.Prelude.{◌≡◌, true, false};
 ghost use Rattle.sets.specs.Sets.{absent, is};
 ghost use Rattle.attrs.specs.Packed.{says, env_of};
 ghost use Rattle.rules.specs.Event.{change};
-ghost use Rattle.assembling.specs.Steps.{pending_of, added_by, breaks_by, changed_by, past_by, mark_turn};
+ghost use Rattle.assembling.specs.Steps.{pending_of, breaks_by, changed_by, past_by, mark_turn};
 
 use crate::assembler::Assembler;
-use crate::runs::{Action, Sight, Turn, goes, starts};
+use crate::runs::{Kind, Run, Sight, Turn};
 use attrs::Attrs;
 
 // What a mark makes of its key's pending attribute.
@@ -17,26 +17,17 @@ pub enum Pending {
     Takes(u32),
 }
 
-// The pending attribute of an added mark: none where the old value comes back.
-fn added(old: u32, value: u32) -> Pending
-    ensures { result ≡ added_by old value }
-{
-    if old == value {
-        return Pending::Drops;
-    }
-    Pending::Takes(value)
-}
-
+// An added mark: no attribute is pending where the old value comes back.
 fn pending_added(old: u32, current: u32, value: u32) -> Pending
     ensures { result ≡ pending_of (change false true old current absent value) }
 {
-    if current == value {
-        if value != 0 {
-            return Pending::Stays;
-        }
-        return added(old, value);
+    if current == value && value != 0 {
+        Pending::Stays
+    } else if old == value {
+        Pending::Drops
+    } else {
+        Pending::Takes(value)
     }
-    added(old, value)
 }
 
 // A mark that stays, under a pending attribute: null is no value.
@@ -44,52 +35,51 @@ fn pending_kept(held: u32, value: u32) -> Pending
     ensures { result ≡ pending_of (change true true 0 0 (is held) value) }
 {
     if held == value {
-        return Pending::Stays;
+        Pending::Stays
+    } else if value == 0 {
+        Pending::Drops
+    } else {
+        Pending::Takes(value)
     }
-    if value == 0 {
-        return Pending::Drops;
+}
+
+// A mark that went: what is in force without it is pending.
+fn pending_gone(current: u32, value: u32) -> Pending
+    ensures { result ≡ pending_of (change true false 0 current absent value) }
+{
+    if current == value {
+        Pending::Stays
+    } else {
+        Pending::Takes(current)
     }
-    Pending::Takes(value)
 }
 
 pub(crate) fn pending_of(a: Assembler, s: Sight, key: u32, value: u32) -> Pending
     ensures { result ≡ pending_of (change s.was s.is (env_of a.old key) (env_of a.current key) (says a.attrs key) value) }
 {
-    let old = a.old;
-    let current = a.current;
-    let attrs = a.attrs;
-    if !s.was {
-        if s.is {
-            return pending_added(old.get(key), current.get(key), value);
+    match (s.was, s.is) {
+        (false, false) => Pending::Stays,
+        (false, true) => pending_added(a.old.get(key), a.current.get(key), value),
+        (true, false) => pending_gone(a.current.get(key), value),
+        (true, true) => {
+            if a.attrs.has(key) {
+                pending_kept(a.attrs.get(key), value)
+            } else {
+                Pending::Stays
+            }
         }
-        return Pending::Stays;
     }
-    if s.is {
-        if attrs.has(key) {
-            return pending_kept(attrs.get(key), value);
-        }
-        return Pending::Stays;
-    }
-    let now = current.get(key);
-    if now == value {
-        return Pending::Stays;
-    }
-    Pending::Takes(now)
 }
 
 // A changed attribute ends a Retain, any mark that stands now an Insert.
-fn breaks(p: Pending, is: bool, action: Action) -> bool
-    ensures { result ≡ breaks_by p is action }
+fn breaks(p: Pending, is: bool, run: Option<Run>) -> bool
+    ensures { result ≡ breaks_by p is run }
 {
-    match action {
-        Action::Idle => false,
-        Action::Inserting(_) => is,
-        Action::Deleting(_) => false,
-        Action::Retaining(_) => match p {
-            Pending::Stays => false,
-            Pending::Drops => true,
-            Pending::Takes(_) => true,
-        },
+    let Some(run) = run else { return false };
+    match run.kind {
+        Kind::Inserting => is,
+        Kind::Deleting => false,
+        Kind::Retaining => !matches!(p, Pending::Stays),
     }
 }
 
@@ -99,10 +89,7 @@ pub(crate) fn changed(attrs: Attrs, p: Pending, key: u32) -> Attrs
     match p {
         Pending::Stays => attrs,
         Pending::Drops => attrs.without(key),
-        Pending::Takes(v) => {
-            let took = attrs.with(key, v);
-            took.attrs
-        }
+        Pending::Takes(v) => attrs.with(key, v).attrs,
     }
 }
 
@@ -111,17 +98,18 @@ pub(crate) fn past(force: Attrs, seen: bool, key: u32, value: u32) -> Attrs
     ensures { result ≡ past_by force seen key value }
 {
     if seen {
-        let took = force.update_current_attributes(key, value);
-        return took.attrs;
+        force.update_current_attributes(key, value).attrs
+    } else {
+        force
     }
-    force
 }
 
-pub(crate) fn mark_turn(p: Pending, is: bool, action: Action) -> Turn
-    ensures { result ≡ mark_turn p is action }
+pub(crate) fn mark_turn(p: Pending, is: bool, run: Option<Run>) -> Turn
+    ensures { result ≡ mark_turn p is run }
 {
-    if breaks(p, is, action) {
-        return starts(Action::Idle);
+    if breaks(p, is, run) {
+        Turn::Starts(None)
+    } else {
+        Turn::Goes(run)
     }
-    goes(action)
 }

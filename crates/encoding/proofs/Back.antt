@@ -8,42 +8,29 @@ use lib.Dec.{ltb}
 use lib.ListN.{length, get_or, length-append}
 use lib.Seq.{get_or-append-add}
 use borrow.Author.Tests.{le-ltb}
+use Rattle.std.specs.Prelude.{Some}
+use Rattle.std.proofs.lemmas.Nat.{le_bytes_4}
 use Rattle.attrs.specs.declared.Attrs.{Attrs}
 use Rattle.ops.specs.declared.delta.Inserted.TheVariants.{Text, Embed}
 use Rattle.ops.specs.declared.delta.Op.{Op}
 use Rattle.ops.specs.declared.delta.Op.TheVariants.{Insert, Delete, Retain}
 use Rattle.ops.specs.declared.delta.DeltaOp.{DeltaOp}
-use Rattle.encoding.specs.declared.Found.TheVariants.{Is}
-use Rattle.encoding.specs.declared.MaybeOp.{MaybeOp}
 use Rattle.encoding.specs.Words.{kind_of, first_of, second_of, four, words_of, all_words, bytes_of, meant_by, op_from, found_from, found_at}
 
--- An operation that is there, with its set.
-abbrev pub found : DeltaOp → MaybeOp
-found d = record { op = Is d.op; attrs = d.attrs }
-
 -- ---- values
-
-low : (a q : ℕ) → a < 256 → (a + 256 * q) % 256 ≡ a
-low a q l = omega arith
-
-small : (a : ℕ) → a < 256 → a % 256 ≡ a
-small a l = omega arith
-
-regroup : (a b c d : ℕ) → a + 256 * b + 65536 * c + 16777216 * d ≡ a + 256 * (b + 256 * (c + 256 * d))
-regroup a b c d = omega arith
 
 -- four bytes in front of the others
 digits : (a b c d : ℕ) → a < 256 → b < 256 → c < 256 → d < 256 → (xs : List ℕ)
     → (let w = a + 256 * b + 65536 * c + 16777216 * d in w % 256 ∷ w / 256 % 256 ∷ w / 65536 % 256 ∷ w / 16777216 % 256 ∷ xs) ≡ a ∷ b ∷ c ∷ d ∷ xs
 digits a b c d la lb lc ld xs =
-    let f₁ : (a + 256 * b + 65536 * c + 16777216 * d) / 256 ≡ b + 256 * (c + 256 * d) = omega arith in
-    let f₂ : (a + 256 * b + 65536 * c + 16777216 * d) / 65536 ≡ c + 256 * d = omega arith in
-    let f₃ : (a + 256 * b + 65536 * c + 16777216 * d) / 16777216 ≡ d = omega arith in
-    let e₀ : (a + 256 * b + 65536 * c + 16777216 * d) % 256 ≡ a = ap (λ (x : ℕ). x % 256) (regroup a b c d) ∙ low a (b + 256 * (c + 256 * d)) la in
-    let e₁ : (a + 256 * b + 65536 * c + 16777216 * d) / 256 % 256 ≡ b = ap (λ (x : ℕ). x % 256) f₁ ∙ low b (c + 256 * d) lb in
-    let e₂ : (a + 256 * b + 65536 * c + 16777216 * d) / 65536 % 256 ≡ c = ap (λ (x : ℕ). x % 256) f₂ ∙ low c d lc in
-    let e₃ : (a + 256 * b + 65536 * c + 16777216 * d) / 16777216 % 256 ≡ d = ap (λ (x : ℕ). x % 256) f₃ ∙ small d ld in
-    rw (e₀, e₁, e₂, e₃)
+    ap (λ (l : List ℕ). l ++ xs) (le_bytes_4 (a ∷ b ∷ c ∷ d ∷ []) (a + 256 * b + 65536 * c + 16777216 * d) refl small (omega arith))
+  where
+    small : (i : ℕ) → get_or (a ∷ b ∷ c ∷ d ∷ []) i 0 < 256
+    small zero = la
+    small (suc zero) = lb
+    small (suc (suc zero)) = lc
+    small (suc (suc (suc zero))) = ld
+    small (suc (suc (suc (suc i)))) = omega arith
 
 -- the elements of a list, one by one
 abbrev listing : ℕ → (ℕ → ℕ) → List ℕ
@@ -69,7 +56,7 @@ values-back v e s = read ∙ ap (λ (n : ℕ). listing n (λ k. get_or v k 0)) (
 
 -- ---- an operation
 
-kind-back : (o : Op) → meant_by (kind_of o) (first_of o) (second_of o) ≡ Is o
+kind-back : (o : Op) → meant_by (kind_of o) (first_of o) (second_of o) ≡ Some o
 kind-back (Insert (Text s n)) = refl
 kind-back (Insert (Embed e)) = refl
 kind-back (Delete n) = refl
@@ -82,13 +69,13 @@ pub record Lawful (a : Attrs) : Type 0 where
   pub bytes : (k : ℕ) → get_or a.values k 0 < 256
 
 pub op-back : (d : DeltaOp) → Lawful d.attrs
-    → op_from (kind_of d.op) (first_of d.op) (second_of d.op) d.attrs.mask (four d.attrs.values 0) (four d.attrs.values 4) (four d.attrs.values 8) (four d.attrs.values 12) ≡ found d
+    → op_from (kind_of d.op) (first_of d.op) (second_of d.op) d.attrs.mask (four d.attrs.values 0) (four d.attrs.values 4) (four d.attrs.values 8) (four d.attrs.values 12) ≡ Some d
 unfolding op_from
 op-back d h = rw (le-ltb 65535 d.attrs.mask (omega (arith, h.fits)), kind-back d.op, values-back d.attrs.values h.long h.bytes)
 
 -- ---- in a list of numbers
 
-from_front : (d : DeltaOp) (a rest : List ℕ) → Lawful d.attrs → found_from (a ++ (words_of d ++ rest)) (length a) ≡ found d
+from_front : (d : DeltaOp) (a rest : List ℕ) → Lawful d.attrs → found_from (a ++ (words_of d ++ rest)) (length a) ≡ Some d
 from_front d a rest h =
     let w = words_of d ++ rest in
     let e : (j : ℕ) → get_or (a ++ w) (length a + j) 0 ≡ get_or w j 0 = λ j. get_or-append-add a w j 0 in
@@ -105,12 +92,12 @@ all_append [] b = refl
 all_append (d ∷ a) b = ap (λ (l : List ℕ). words_of d ++ l) (all_append a b) ∙ sym (append_assoc (words_of d) (all_words a) (all_words b))
 
 -- Of operations at the front, whatever stands behind them, the one with a ahead of it is number `length a`.
-pub read_back_lem : (a b : List DeltaOp) (d : DeltaOp) (rest : List ℕ) → Lawful d.attrs → found_at (all_words (a ++ d ∷ b) ++ rest) (length a) ≡ found d
+pub read_back_lem : (a b : List DeltaOp) (d : DeltaOp) (rest : List ℕ) → Lawful d.attrs → found_at (all_words (a ++ d ∷ b) ++ rest) (length a) ≡ Some d
 unfolding found_at
 read_back_lem a b d rest h =
     let w = all_words a ++ (words_of d ++ (all_words b ++ rest)) in
     let e : all_words (a ++ d ∷ b) ++ rest ≡ w = ap (λ (l : List ℕ). l ++ rest) (all_append a (d ∷ b)) ∙ append_assoc (all_words a) (words_of d ++ all_words b) rest ∙ ap (λ (l : List ℕ). all_words a ++ l) (append_assoc (words_of d) (all_words b) rest) in
     let n : length w ≡ length a * 8 + length (words_of d ++ (all_words b ++ rest)) = length-append (all_words a) (words_of d ++ (all_words b ++ rest)) ∙ ap (λ (x : ℕ). x + length (words_of d ++ (all_words b ++ rest))) (length_all a) in
     let t : ltb (length w) (length a * 8 + 8) ≡ false = le-ltb (length w) (length a * 8 + 8) (omega (arith, n)) in
-    let f : found_from w (length a * 8) ≡ found d = ap (found_from w) (sym (length_all a)) ∙ from_front d (all_words a) (all_words b ++ rest) h in
+    let f : found_from w (length a * 8) ≡ Some d = ap (found_from w) (sym (length_all a)) ∙ from_front d (all_words a) (all_words b ++ rest) h in
     rw (e, t) f

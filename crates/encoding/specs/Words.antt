@@ -1,14 +1,10 @@
 -- Operations in numbers, eight to each.
-use Rattle.std.specs.Prelude.{ℕ, ◌+◌, ◌*◌, ◌/◌, ◌%◌, cond, List, [], ◌∷◌, ◌++◌, eqb, ltb, length, get_or}
-use Rattle.sets.specs.Sets.{empty}
-use Rattle.attrs.specs.Packed.{packed}
+use Rattle.std.specs.Prelude.{ℕ, ◌+◌, ◌*◌, ◌/◌, ◌%◌, cond, List, [], ◌∷◌, ◌++◌, eqb, ltb, length, get_or, Option, None, Some}
+use Rattle.attrs.specs.declared.Attrs.{Attrs}
 use Rattle.ops.specs.declared.delta.Inserted.TheVariants.{Text, Embed}
 use Rattle.ops.specs.declared.delta.Op.{Op}
 use Rattle.ops.specs.declared.delta.Op.TheVariants.{Insert, Delete, Retain}
 use Rattle.ops.specs.declared.delta.DeltaOp.{DeltaOp}
-use Rattle.encoding.specs.declared.Found.{Found}
-use Rattle.encoding.specs.declared.Found.TheVariants.{Is, Nothing}
-use Rattle.encoding.specs.declared.MaybeOp.{MaybeOp}
 
 -- ---- written
 
@@ -53,23 +49,25 @@ bytes_of a b c d =
     ∷ c % 256 ∷ c / 256 % 256 ∷ c / 65536 % 256 ∷ c / 16777216 % 256
     ∷ d % 256 ∷ d / 256 % 256 ∷ d / 65536 % 256 ∷ d / 16777216 % 256 ∷ []
 
-abbrev pub meant_by : ℕ → ℕ → ℕ → Found
+abbrev pub meant_by : ℕ → ℕ → ℕ → Option Op
 meant_by k a b =
-    cond (eqb k 1) (Is (Insert (Text a b)))
-    (cond (eqb k 2) (Is (Insert (Embed a))) (cond (eqb k 3) (Is (Delete a)) (cond (eqb k 4) (Is (Retain a)) Nothing)))
+    cond (eqb k 1) (Some (Insert (Text a b)))
+    (cond (eqb k 2) (Some (Insert (Embed a))) (cond (eqb k 3) (Some (Delete a)) (cond (eqb k 4) (Some (Retain a)) None)))
 
-abbrev pub none_found : MaybeOp
-none_found = record { op = Nothing; attrs = packed empty }
+-- An operation with its set, if there is one.
+abbrev pub with_set : Attrs → Option Op → Option DeltaOp
+with_set a None = None
+with_set a (Some o) = Some (record { op = o; attrs = a })
 
 -- What eight numbers say. A key mask has 16 bits.
-unfoldable pub op_from : ℕ → ℕ → ℕ → ℕ → ℕ → ℕ → ℕ → ℕ → MaybeOp
-op_from k a b m p q r s = cond (ltb 65535 m) none_found (record { op = meant_by k a b; attrs = record { mask = m; values = bytes_of p q r s } })
+unfoldable pub op_from : ℕ → ℕ → ℕ → ℕ → ℕ → ℕ → ℕ → ℕ → Option DeltaOp
+op_from k a b m p q r s = cond (ltb 65535 m) None (with_set (record { mask = m; values = bytes_of p q r s }) (meant_by k a b))
 
 -- The operation that the eight numbers from `at` on say.
-abbrev pub found_from : List ℕ → ℕ → MaybeOp
+abbrev pub found_from : List ℕ → ℕ → Option DeltaOp
 found_from w at =
     op_from (get_or w at 0) (get_or w (at + 1) 0) (get_or w (at + 2) 0) (get_or w (at + 3) 0)
     (get_or w (at + 4) 0) (get_or w (at + 5) 0) (get_or w (at + 6) 0) (get_or w (at + 7) 0)
 
-unfoldable pub found_at : List ℕ → ℕ → MaybeOp
-found_at w i = cond (ltb (length w) (i * 8 + 8)) none_found (found_from w (i * 8))
+unfoldable pub found_at : List ℕ → ℕ → Option DeltaOp
+found_at w i = cond (ltb (length w) (i * 8 + 8)) None (found_from w (i * 8))

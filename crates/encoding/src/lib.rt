@@ -2,56 +2,25 @@
 // the key mask, and the sixteen values, four to a number.
 #![tactic(auto)]
 
-ghost use Rattle.std.specs.Prelude.{◌≡◌, ◌+◌, ◌*◌, ◌/◌, ◌%◌, ◌<◌, ◌≤◌, length};
+ghost use Rattle.std.specs.Prelude.{◌≡◌, ◌+◌, ◌*◌, ◌<◌, ◌≤◌, [], ◌∷◌, length, slice_index};
 ghost use Rattle.std.proofs.lemmas.List.Edits.{sets};
-ghost use Rattle.encoding.specs.Words.{bytes_of, four, meant_by, found_at, kind_of, first_of, second_of, words_of};
+ghost use Rattle.encoding.specs.Words.{bytes_of, four, meant_by, found_from, found_at, kind_of, first_of, second_of, words_of};
 
 use attrs::Attrs;
 use ops::delta::{DeltaOp, Inserted, Op};
 
-#[derive(Clone, Copy)]
-pub enum Found {
-    Is(Op),
-    Nothing,
-}
-
-// An operation with its set beside it, or none and the empty set.
-#[derive(Clone, Copy)]
-pub struct MaybeOp {
-    pub op: Found,
-    pub attrs: Attrs,
-}
-
-pub const WORDS: u32 = 8;
-
-fn wide(x: u8) -> u32
-    ensures { (result ≡ x) × (result < 256) }
-{
-    x as u32
-}
+pub const WORDS: usize = 8;
 
 // Sixteen values from four numbers.
 fn bytes(a: u32, b: u32, c: u32, d: u32) -> [u8; 16]
     ensures { result ≡ bytes_of a b c d }
 {
-    [
-        (a % 256) as u8,
-        (a / 256 % 256) as u8,
-        (a / 65536 % 256) as u8,
-        (a / 16777216 % 256) as u8,
-        (b % 256) as u8,
-        (b / 256 % 256) as u8,
-        (b / 65536 % 256) as u8,
-        (b / 16777216 % 256) as u8,
-        (c % 256) as u8,
-        (c / 256 % 256) as u8,
-        (c / 65536 % 256) as u8,
-        (c / 16777216 % 256) as u8,
-        (d % 256) as u8,
-        (d / 256 % 256) as u8,
-        (d / 65536 % 256) as u8,
-        (d / 16777216 % 256) as u8,
-    ]
+    let mut values = [0; 16];
+    values[..4].copy_from_slice(&a.to_le_bytes());
+    values[4..8].copy_from_slice(&b.to_le_bytes());
+    values[8..12].copy_from_slice(&c.to_le_bytes());
+    values[12..].copy_from_slice(&d.to_le_bytes());
+    values
 }
 
 // Four values from k on, in one number.
@@ -59,95 +28,56 @@ fn quad(v: [u8; 16], k: usize) -> u32
     requires { k + 3 < 16 }
     ensures { result ≡ four v k }
 {
-    wide(v[k]) + 256 * wide(v[k + 1]) + 65536 * wide(v[k + 2]) + 16777216 * wide(v[k + 3])
+    u32::from_le_bytes([v[k], v[k + 1], v[k + 2], v[k + 3]])
 }
 
-fn kind_of(kind: u32, first: u32, second: u32) -> Found
+// The kinds are numbers here: the C interface passes operations so.
+fn op_for(kind: u32, first: u32, second: u32) -> Option<Op>
     ensures { result ≡ meant_by kind first second }
 {
-    if kind == 1 {
-        let part = Inserted::Text {
+    match kind {
+        1 => Some(Op::Insert(Inserted::Text {
             start: first,
             len: second,
-        };
-        return Found::Is(Op::Insert(part));
+        })),
+        2 => Some(Op::Insert(Inserted::Embed(first))),
+        3 => Some(Op::Delete(first)),
+        4 => Some(Op::Retain(first)),
+        _ => None,
     }
-    if kind == 2 {
-        let embed = Inserted::Embed(first);
-        return Found::Is(Op::Insert(embed));
-    }
-    if kind == 3 {
-        return Found::Is(Op::Delete(first));
-    }
-    if kind == 4 {
-        return Found::Is(Op::Retain(first));
-    }
-    Found::Nothing
+}
+
+fn op_in(words: [u32; WORDS]) -> Option<DeltaOp>
+    ensures { result ≡ found_from words 0 }
+{
+    let [kind, first, second, mask, a, b, c, d] = words;
+    let mask = u16::try_from(mask).ok()?;
+    let op = op_for(kind, first, second)?;
+    let values = bytes(a, b, c, d);
+    Some(DeltaOp {
+        op,
+        attrs: Attrs { mask, values },
+    })
 }
 
 // Operation i of those that lie at the front of `words`; none past the end, or where the numbers say no operation.
-pub fn op_at(words: &[u32], i: u32) -> MaybeOp
+pub fn op_at(words: &[u32], i: u32) -> Option<DeltaOp>
     ensures { result ≡ found_at words.now i }
 {
-    let at = i as usize * 8;
-    if at + 8 > words.len() {
-        return MaybeOp {
-            op: Found::Nothing,
-            attrs: Attrs::empty(),
-        };
-    }
-    let mask = words[at + 3];
-    if mask > 65535 {
-        return MaybeOp {
-            op: Found::Nothing,
-            attrs: Attrs::empty(),
-        };
-    }
-    let op = kind_of(words[at], words[at + 1], words[at + 2]);
-    let values = bytes(words[at + 4], words[at + 5], words[at + 6], words[at + 7]);
-    let attrs = Attrs {
-        mask: mask as u16,
-        values,
-    };
-    MaybeOp { op, attrs }
+    let at = i as usize * WORDS;
+    let rest = words.get(at..)?;
+    let word = rest.first_chunk()?;
+    op_in(*word)
 }
 
-fn kind(op: Op) -> u32
-    ensures { result ≡ kind_of op }
+fn numbers_of(op: Op) -> [u32; 3]
+    ensures { result ≡ kind_of op ∷ first_of op ∷ second_of op ∷ [] }
 {
     match op {
-        Op::Insert(part) => match part {
-            Inserted::Text { start: _, len: _ } => 1,
-            Inserted::Embed(_) => 2,
-        },
-        Op::Delete(_) => 3,
-        Op::Retain(_) => 4,
-    }
-}
-
-fn first(op: Op) -> u32
-    ensures { result ≡ first_of op }
-{
-    match op {
-        Op::Insert(part) => match part {
-            Inserted::Text { start, len: _ } => start,
-            Inserted::Embed(n) => n,
-        },
-        Op::Delete(n) => n,
-        Op::Retain(n) => n,
-    }
-}
-
-fn second(op: Op) -> u32
-    ensures { result ≡ second_of op }
-{
-    match op {
-        Op::Insert(part) => match part {
-            Inserted::Text { start: _, len } => len,
-            Inserted::Embed(_) => 0,
-        },
-        Op::Delete(_) => 0,
-        Op::Retain(_) => 0,
+        Op::Insert(Inserted::Text { start, len }) => [1, start, len],
+        Op::Insert(Inserted::Embed(n)) => [2, n, 0],
+        Op::Delete(n) => [3, n, 0],
+        Op::Retain(n) => [4, n, 0],
     }
 }
 
@@ -156,16 +86,19 @@ pub fn write_op(words: &mut [u32], i: u32, d: DeltaOp)
     requires { i * 8 + 8 ≤ length words.old }
     ensures { words.new ≡ sets words.old (i * 8) (words_of d) }
 {
-    let at = i as usize * 8;
-    let op = d.op;
-    let set = d.attrs;
-    let values = set.values;
-    words[at] = kind(op);
-    words[at + 1] = first(op);
-    words[at + 2] = second(op);
-    words[at + 3] = set.mask as u32;
-    words[at + 4] = quad(values, 0);
-    words[at + 5] = quad(values, 4);
-    words[at + 6] = quad(values, 8);
-    words[at + 7] = quad(values, 12);
+    let at = i as usize * WORDS;
+    let [kind, first, second] = numbers_of(d.op);
+    let mask = u32::from(d.attrs.mask);
+    let v = d.attrs.values;
+    let written = [
+        kind,
+        first,
+        second,
+        mask,
+        quad(v, 0),
+        quad(v, 4),
+        quad(v, 8),
+        quad(v, 12),
+    ];
+    words[at..at + WORDS].copy_from_slice(&written);
 }

@@ -19,7 +19,7 @@ use Rattle.layout.proofs.Soundness.{sound-parts}
 use Rattle.layout.proofs.Models.{used-length, model-sound}
 use Rattle.ops.specs.declared.delta.DeltaOp.{DeltaOp}
 use Rattle.encoding.specs.Words.{all_words}
-use Rattle.events.specs.declared.walk.Measure.{Measure}
+use Rattle.events.specs.declared.event.Written.{Written}
 use Rattle.events.specs.Told.{Ops, delta_ops, encoded, units_for, texts, tell_all, begun}
 use Rattle.events.specs.Walks.{Walkable, Walked, gathered, given_by}
 use Rattle.events.specs.Given.{refused, gives, fits_in, given, at_front}
@@ -68,7 +68,7 @@ module _ (h : Head) (m u : List ℕ) where
   unfolding given
   given-sound a b e = rw e
 
-  module _ (ok : sound_of h m u ≡ true) (w₀ o₀ w : List ℕ) (r : Measure) (k : Walked false 0 (list_of h m) r w₀ w) where
+  module _ (ok : sound_of h m u ≡ true) (w₀ o₀ w : List ℕ) (r : Written) (k : Walked false 0 (list_of h m) r w₀ w) where
     pub same : w ≡ w₀
     same = k.words ∙ walked-words 0 w₀ (gathered false fresh (list_of h m))
 
@@ -96,7 +96,7 @@ module _ (h : Head) (m u : List ℕ) where
         given-sound (length w₀) (length o₀) ok ∙ rw (f, g)
 
     -- the second walk writes the operations that are kept
-    pub wrote : r.ops * 8 ≤ length w → (r₁ : Measure) (w₁ : List ℕ) → Walked false r.ops (list_of h m) r₁ w w₁ → w₁ ≡ at_front (encoded told) w₀
+    pub wrote : r.ops * 8 ≤ length w → (r₁ : Written) (w₁ : List ℕ) → Walked false r.ops (list_of h m) r₁ w w₁ → w₁ ≡ at_front (encoded told) w₀
     unfolding encoded
     wrote l r₁ w₁ k₁ =
         let all = gathered false fresh (list_of h m) in

@@ -7,6 +7,8 @@ use mathlib.Core.List.{List, [], ◌∷◌, ◌++◌}
 use lib.Dec.{ltb}
 use lib.ListN.{length}
 use lib.Seq.{sets, length-sets}
+use Rattle.std.specs.Prelude.{Option, None, Some}
+use Rattle.std.specs.Option.{option_to_list}
 use Rattle.rules.specs.Sheet.{What, text, embed, mark, Item, width}
 use Rattle.rules.specs.Sound.{Fits, AllFit}
 use Rattle.rules.specs.Event.{Asm, fresh, add_op, step, told, told_units}
@@ -15,16 +17,13 @@ use Rattle.layout.specs.Chain.{item_at, next_at, chain, walks}
 use Rattle.layout.specs.Memory.{list_of}
 use Rattle.layout.proofs.Links.{chain-step, walks_next}
 use Rattle.ops.specs.declared.delta.DeltaOp.{DeltaOp}
-use Rattle.encoding.specs.declared.Found.{Found}
-use Rattle.encoding.specs.declared.Found.TheVariants.{Is, Nothing}
-use Rattle.encoding.specs.declared.MaybeOp.{MaybeOp}
 use Rattle.encoding.specs.Words.{words_of}
 use Rattle.assembling.specs.declared.assembler.Assembler.{Assembler}
 use Rattle.assembling.specs.declared.assembler.Passed.{Passed}
 use Rattle.events.specs.declared.telling.Count.{Count}
-use Rattle.events.specs.declared.walk.Measure.{Measure}
-use Rattle.assembling.specs.Steps.{was_by, is_by, load, inserted_by, action_op, pass_by, fresh_asm}
-use Rattle.events.specs.Told.{delta_ops, tell_all, telling, Telling, begun, ops_in, found_ops, kept_by, wrote_by}
+use Rattle.events.specs.declared.event.Written.{Written}
+use Rattle.assembling.specs.Steps.{was_by, is_by, load, inserted_by, run_op, pass_by, fresh_asm}
+use Rattle.events.specs.Told.{delta_ops, tell_all, telling, Telling, begun, kept_by, wrote_by}
 use Rattle.events.specs.Walks.{Walkable, Walked, gathered}
 use Rattle.events.proofs.Tellings.{tell-append, ops_append}
 use Rattle.events.proofs.Turns.{run_of, code_of, Plain, Steps, told-append, op-told, units-told}
@@ -44,8 +43,8 @@ going_start back limit w l = record { t = fresh; same = refl; plain = tt; small 
 pub going_step : (back : Bool) (limit : ℕ) (a : Assembler) (n n₁ n₂ : Count) (w w₁ w₂ w₀ : List ℕ) (i : Item) (l whole : List Item) (P : Passed)
     → Going back limit a n w w₀ (i ∷ l) whole → Fair i.what
     → P ≡ pass_by (was_by back i.flags) (is_by back i.flags) i.what a
-    → telling n₁ w₁ ≡ tell_all limit (telling n w) (ops_in P.first)
-    → telling n₂ w₂ ≡ tell_all limit (telling n₁ w₁) (ops_in P.second)
+    → telling n₁ w₁ ≡ tell_all limit (telling n w) (option_to_list P.first)
+    → telling n₂ w₂ ≡ tell_all limit (telling n₁ w₁) (option_to_list P.second)
     → Going back limit P.asm n₂ w₂ w₀ l whole
 going_step back limit a n n₁ n₂ w w₁ w₂ w₀ i l whole P g f e_p e₁ e₂ =
     let was = was_by back i.flags in
@@ -64,8 +63,8 @@ going_step back limit a n n₁ n₂ w w₁ w₂ w₀ i l whole P g f e_p e₁ e�
       plain = D.plain;
       small = small-past was now i.what t g.small f;
       tells =
-          ap (λ (s : Telling). tell_all limit s rest) (e₂ ∙ ap (λ (s : Telling). tell_all limit s (ops_in P.second)) e₁ ∙ sym (tell-append limit (telling n w) (ops_in P.first) (ops_in P.second)))
-          ∙ sym (tell-append limit (telling n w) (ops_in P.first ++ ops_in P.second) rest)
+          ap (λ (s : Telling). tell_all limit s rest) (e₂ ∙ ap (λ (s : Telling). tell_all limit s (option_to_list P.second)) e₁ ∙ sym (tell-append limit (telling n w) (option_to_list P.first) (option_to_list P.second)))
+          ∙ sym (tell-append limit (telling n w) (option_to_list P.first ++ option_to_list P.second) rest)
           ∙ ap (λ (x : List DeltaOp). tell_all limit (telling n w) (x ++ rest)) D.tells
           ∙ ap (λ (x : ℕ). tell_all limit (telling n w) (delta_ops a.units ops ++ delta_ops x more)) u
           ∙ ap (tell_all limit (telling n w)) (sym (ops_append a.units ops more))
@@ -75,17 +74,17 @@ going_step back limit a n n₁ n₂ w w₁ w₂ w₀ i l whole P g f e_p e₁ e�
 
 pub record Ended (back : Bool) (limit : ℕ) (a : Assembler) (n : Count) (w w₀ : List ℕ) (whole : List Item) : Type 0 where
   pub tells : telling n w ≡ tell_all limit (begun w₀) (delta_ops 0 (gathered back fresh whole))
-  pub units : a.units + inserted_by a.action ≡ told_units (gathered back fresh whole)
+  pub units : a.units + inserted_by a.run ≡ told_units (gathered back fresh whole)
 
-pub going_end : (back : Bool) (limit : ℕ) (a : Assembler) (n n₁ : Count) (w w₁ w₀ : List ℕ) (whole : List Item) (m : MaybeOp)
-    → Going back limit a n w w₀ [] whole → m ≡ action_op a.action a → telling n₁ w₁ ≡ tell_all limit (telling n w) (ops_in m)
+pub going_end : (back : Bool) (limit : ℕ) (a : Assembler) (n n₁ : Count) (w w₁ w₀ : List ℕ) (whole : List Item) (m : Option DeltaOp)
+    → Going back limit a n w w₀ [] whole → m ≡ run_op a.run a → telling n₁ w₁ ≡ tell_all limit (telling n w) (option_to_list m)
     → Ended back limit a n₁ w₁ w₀ whole
 going_end back limit a n n₁ w w₁ w₀ whole m g em e =
     let t = g.t in
-    let o : m ≡ action_op (run_of t.run) (code_of a.units t) = em ∙ ap (λ (x : Assembler). action_op x.action x) g.same in
-    let u : inserted_by a.action ≡ told_units (add_op t.run t.attrs t.cur) = ap (λ (x : Assembler). inserted_by x.action) g.same ∙ units-told t.run t.attrs t.cur in
+    let o : m ≡ run_op (run_of t.run) (code_of a.units t) = em ∙ ap (λ (x : Assembler). run_op x.run x) g.same in
+    let u : inserted_by a.run ≡ told_units (add_op t.run t.attrs t.cur) = ap (λ (x : Assembler). inserted_by x.run) g.same ∙ units-told t.run t.attrs t.cur in
     record {
-      tells = e ∙ ap (λ (x : MaybeOp). tell_all limit (telling n w) (ops_in x)) o ∙ ap (tell_all limit (telling n w)) (op-told a.units t g.plain) ∙ g.tells;
+      tells = e ∙ ap (λ (x : Option DeltaOp). tell_all limit (telling n w) (option_to_list x)) o ∙ ap (tell_all limit (telling n w)) (op-told a.units t g.plain) ∙ g.tells;
       units = ap (λ (x : ℕ). a.units + x) u ∙ g.units;
     }
 
@@ -96,17 +95,13 @@ unfolding tell_all
 told_is limit s [] = omega arith
 told_is limit s (d ∷ ds) = omega (arith, told_is limit (record { told = s.told + 1; kept = kept_by s.told s.kept d; words = wrote_by limit s.told s.words d }) ds)
 
-one-op : (m : MaybeOp) → length (ops_in m) ≤ 1
-unfolding ops_in
-one-op m = go m.op
-  where
-    go : (f : Found) → length (found_ops f m.attrs) ≤ 1
-    go (Is o) = omega arith
-    go Nothing = omega arith
+one-op : (m : Option DeltaOp) → length (option_to_list m) ≤ 1
+one-op None = omega arith
+one-op (Some d) = omega arith
 
 -- an operation at most is told
-pub told-one : (limit : ℕ) (n n₁ : Count) (w w₁ : List ℕ) (m : MaybeOp) → telling n₁ w₁ ≡ tell_all limit (telling n w) (ops_in m) → n₁.told ≤ n.told + 1
-told-one limit n n₁ w w₁ m e = omega (arith, ap (λ (s : Telling). s.told) e, told_is limit (telling n w) (ops_in m), one-op m)
+pub told-one : (limit : ℕ) (n n₁ : Count) (w w₁ : List ℕ) (m : Option DeltaOp) → telling n₁ w₁ ≡ tell_all limit (telling n w) (option_to_list m) → n₁.told ≤ n.told + 1
+told-one limit n n₁ w w₁ m e = omega (arith, ap (λ (s : Telling). s.told) e, told_is limit (telling n w) (option_to_list m), one-op m)
 
 words_long : (limit : ℕ) (s : Telling) (ds : List DeltaOp) → length (tell_all limit s ds).words ≡ length s.words
 unfolding tell_all
@@ -119,8 +114,8 @@ words_long limit s (d ∷ ds) =
     go false = refl
 
 -- no number more, no number less
-pub told-long : (limit : ℕ) (n n₁ : Count) (w w₁ : List ℕ) (m : MaybeOp) → telling n₁ w₁ ≡ tell_all limit (telling n w) (ops_in m) → length w₁ ≡ length w
-told-long limit n n₁ w w₁ m e = ap (λ (s : Telling). length s.words) e ∙ words_long limit (telling n w) (ops_in m)
+pub told-long : (limit : ℕ) (n n₁ : Count) (w w₁ : List ℕ) (m : Option DeltaOp) → telling n₁ w₁ ≡ tell_all limit (telling n w) (option_to_list m) → length w₁ ≡ length w
+told-long limit n n₁ w w₁ m e = ap (λ (s : Telling). length s.words) e ∙ words_long limit (telling n w) (option_to_list m)
 
 -- ---- items
 
@@ -179,8 +174,8 @@ module _ (back : Bool) (limit : ℕ) (m w₀ w : List ℕ) (a : Assembler) (n : 
 
   pub walking-step : (n₁ n₂ : Count) (w₁ w₂ : List ℕ) (P : Passed)
       → P ≡ pass_by (was_by back (item_at m at).flags) (is_by back (item_at m at).flags) (item_at m at).what a
-      → telling n₁ w₁ ≡ tell_all limit (telling n w) (ops_in P.first)
-      → telling n₂ w₂ ≡ tell_all limit (telling n₁ w₁) (ops_in P.second)
+      → telling n₁ w₁ ≡ tell_all limit (telling n w) (option_to_list P.first)
+      → telling n₂ w₂ ≡ tell_all limit (telling n₁ w₁) (option_to_list P.second)
       → Walking back limit m w₀ w₂ P.asm n₂ (next_at m at) (k - 1) at₀ k₀
   walking-step n₁ n₂ w₁ w₂ P e e₁ e₂ =
       let i = item_at m at in
@@ -201,8 +196,8 @@ module _ (back : Bool) (limit : ℕ) (m w₀ w : List ℕ) (a : Assembler) (n : 
       }
 
 pub walking-end : (back : Bool) (limit : ℕ) (m w₀ w : List ℕ) (a : Assembler) (n : Count) (at k at₀ k₀ : ℕ) → Walking back limit m w₀ w a n at k at₀ k₀ → k ≤ 0
-    → (mo : MaybeOp) (n₁ : Count) (w₁ : List ℕ) (r : Measure) → mo ≡ action_op a.action a → telling n₁ w₁ ≡ tell_all limit (telling n w) (ops_in mo)
-    → r.ops ≡ n₁.kept → r.units ≡ a.units + inserted_by a.action → Walked back limit (chain k₀ m at₀) r w₀ w₁
+    → (mo : Option DeltaOp) (n₁ : Count) (w₁ : List ℕ) (r : Written) → mo ≡ run_op a.run a → telling n₁ w₁ ≡ tell_all limit (telling n w) (option_to_list mo)
+    → r.ops ≡ n₁.kept → r.units ≡ a.units + inserted_by a.run → Walked back limit (chain k₀ m at₀) r w₀ w₁
 unfolding chain
 walking-end back limit m w₀ w a n at (suc k) at₀ k₀ g z mo n₁ w₁ r em e eo eu = absurd (omega arith)
 walking-end back limit m w₀ w a n at zero at₀ k₀ g z mo n₁ w₁ r em e eo eu =

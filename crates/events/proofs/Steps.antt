@@ -6,6 +6,7 @@ use mathlib.Core.Bool.{Bool, true, false, cond, not, ◌&&◌}
 use mathlib.Core.List.{List, [], ◌∷◌, ◌++◌}
 use lib.Dec.{eqb}
 use borrow.Author.Tests.{lt-ltb}
+use Rattle.std.specs.Prelude.{Option, None, Some}
 use Rattle.attrs.specs.declared.Attrs.{Attrs}
 use Rattle.sets.specs.Sets.{Slot, absent, is, Set, Env, at, non_null, as_set}
 use Rattle.attrs.specs.Packed.{says, packed, onto, with_at, taken}
@@ -18,12 +19,14 @@ use Rattle.rules.specs.Event.{idle, Asm, add_op, Change, stays, becomes, change,
 use Rattle.ops.specs.declared.delta.Inserted.TheVariants.{Embed}
 use Rattle.ops.specs.declared.delta.Op.TheVariants.{Insert}
 use Rattle.ops.specs.declared.delta.DeltaOp.{DeltaOp}
-use Rattle.assembling.specs.declared.runs.Action.{Action}
-use Rattle.assembling.specs.declared.runs.Action.TheVariants.{Idle, Inserting, Deleting, Retaining}
+use Rattle.assembling.specs.declared.runs.Kind.{Kind}
+use Rattle.assembling.specs.declared.runs.Run.{Run as Kept}
 use Rattle.assembling.specs.declared.assembler.Assembler.{Assembler}
 use Rattle.assembling.specs.declared.runs.Turn.{Turn}
-use Rattle.assembling.specs.Steps.{inserted_by, counted, load, grown_by, turned_by, text_by, tells_too, pending_of, breaks_by, changed_by, past_by, mark_turn, pending_by, pass_by, goes_on, begins, found}
-use Rattle.events.specs.Told.{Ops, delta_ops, ops_in}
+use Rattle.assembling.specs.declared.runs.Turn.TheVariants.{Goes, Starts}
+use Rattle.assembling.specs.Steps.{of_kind, counted, inserted_by, load, same_kind, grow_by, grown_by, turned_by, text_by, tells_too, pending_of, breaks_by, changed_by, past_by, mark_turn, pending_by, pass_by, found}
+use Rattle.assembling.proofs.Pendings.{inserted-le}
+use Rattle.events.specs.Told.{Ops, delta_ops}
 use Rattle.events.proofs.Tellings.{ops_append}
 use Rattle.events.proofs.Turns.{told-append, run_of, code_of, Plain, goes_on_lem, grows-insert, grows-delete, grows-retain, marks_turn, op-told, units-told, Steps, on_run, turns_steps}
 
@@ -49,7 +52,7 @@ text-does true false s n p t h = turns_steps p t _ _ h (grows-delete n t.run)
 text-does true true s n p t h = turns_steps p t _ _ h (grows-retain n t.run)
 
 embed-does : (was now : Bool) (e p : ℕ) (t : Asm) → Plain t.run → Does was now (embed e) p t
-unfolding ops_in delta_ops
+unfolding delta_ops
 embed-does false false e p t h = turns_steps p t _ _ h (goes_on_lem t.run)
 embed-does true false e p t h = turns_steps p t _ _ h (grows-delete 1 t.run)
 embed-does true true e p t h = turns_steps p t _ _ h (grows-retain 1 t.run)
@@ -126,7 +129,7 @@ mark-does was now k v p t h l m c =
     )
     (record {
       tells = S.tells;
-      asm = ap (λ (x : Assembler). record { action = x.action; units = x.units; attrs = packed q.attrs; current = packed (as_set q.cur); old = packed (as_set q.old) }) S.asm;
+      asm = ap (λ (x : Assembler). record { run = x.run; units = x.units; attrs = packed q.attrs; current = packed (as_set q.cur); old = packed (as_set q.old) }) S.asm;
       plain = S.plain;
     })
 
@@ -158,46 +161,40 @@ small-past was true (mark j v) t c f k = go (eqb k j)
 
 -- ---- how much the assembler counts
 
-abbrev Loads : Action → Turn → ℕ → Type 0
-Loads r T w = cond T.ends (inserted_by r) 0 + counted T.action ≤ counted r + w
+abbrev Loads : Option Kept → Turn → ℕ → Type 0
+Loads r (Goes s) w = counted s ≤ counted r + w
+Loads r (Starts s) w = inserted_by r + counted s ≤ counted r + w
 
-grown-load : (was now : Bool) (w : ℕ) (r : Action) → Loads r (grown_by was now w r) w
-grown-load false false w r = omega arith
-grown-load false true w Idle = omega arith
-grown-load false true w (Inserting n) = omega arith
-grown-load false true w (Deleting n) = omega arith
-grown-load false true w (Retaining n) = omega arith
-grown-load true false w Idle = omega arith
-grown-load true false w (Inserting n) = omega arith
-grown-load true false w (Deleting n) = omega arith
-grown-load true false w (Retaining n) = omega arith
-grown-load true true w Idle = omega arith
-grown-load true true w (Inserting n) = omega arith
-grown-load true true w (Deleting n) = omega arith
-grown-load true true w (Retaining n) = omega arith
-
-turned-load : (a : Assembler) (T : Turn) (w : ℕ) → Loads a.action T w → load (turned_by a T).asm ≤ load a + w
-turned-load a T w h = go T.ends h
+grow-load : (k : Kind) (w : ℕ) (r : Option Kept) → Loads r (grow_by k w r) w
+grow-load k w None = omega arith
+grow-load k w (Some r) = go (same_kind r.kind k)
   where
-    go : (b : Bool) → cond b (inserted_by a.action) 0 + counted T.action ≤ counted a.action + w → cond b (a.units + inserted_by a.action) a.units + counted T.action ≤ (a.units + counted a.action) + w
-    go true h = omega arith
-    go false h = omega arith
+    go : (b : Bool) → Loads (Some r) (cond b (Goes (of_kind k (r.width + w))) (Starts (of_kind k w))) w
+    go true = omega arith
+    go false = omega (arith, inserted-le (Some r))
 
-break-load : (r : Action) (b : Bool) → Loads r (cond b (begins Idle) (goes_on r)) 0
-break-load Idle true = omega arith
-break-load (Inserting n) true = omega arith
-break-load (Deleting n) true = omega arith
-break-load (Retaining n) true = omega arith
+grown-load : (was now : Bool) (w : ℕ) (r : Option Kept) → Loads r (grown_by was now w r) w
+grown-load false false w r = omega arith
+grown-load false true w r = grow-load _ w r
+grown-load true false w r = grow-load _ w r
+grown-load true true w r = grow-load _ w r
+
+turned-load : (a : Assembler) (T : Turn) (w : ℕ) → Loads a.run T w → load (turned_by a T).asm ≤ load a + w
+turned-load a (Goes r) w h = omega arith
+turned-load a (Starts r) w h = omega arith
+
+break-load : (r : Option Kept) (b : Bool) → Loads r (cond b (Starts None) (Goes r)) 0
+break-load r true = omega (arith, inserted-le r)
 break-load r false = omega arith
 
 text-load : (was now : Bool) (n : ℕ) (a : Assembler) → load (text_by was now n a).asm ≤ load a + n
-text-load was now n a = turned-load a (grown_by was now n a.action) n (grown-load was now n a.action)
+text-load was now n a = turned-load a (grown_by was now n a.run) n (grown-load was now n a.run)
 
 pub pass-load : (was now : Bool) (w : What) (a : Assembler) → load (pass_by was now w a).asm ≤ load a + width w
 pass-load was now (text s n) a = text-load was now n a
 pass-load was now (embed e) a = go (not was && now)
   where
-    go : (b : Bool) → load (cond b (tells_too (found (Insert (Embed e)) a.current) (turned_by a (begins Idle))) (text_by was now 1 a)).asm ≤ load a + 1
-    go true = omega (arith, turned-load a (begins Idle) 0 (break-load a.action true))
+    go : (b : Bool) → load (cond b (tells_too (found (Insert (Embed e)) a.current) (turned_by a (Starts None))) (text_by was now 1 a)).asm ≤ load a + 1
+    go true = omega (arith, turned-load a (Starts None) 0 (break-load a.run true))
     go false = text-load was now 1 a
-pass-load was now (mark k v) a = turned-load a (mark_turn (pending_by was now k v a) now a.action) 0 (break-load a.action (breaks_by (pending_by was now k v a) now a.action))
+pass-load was now (mark k v) a = turned-load a (mark_turn (pending_by was now k v a) now a.run) 0 (break-load a.run (breaks_by (pending_by was now k v a) now a.run))

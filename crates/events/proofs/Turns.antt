@@ -5,6 +5,8 @@ use native.Mathlib.Nat.{add-zero}
 use mathlib.Core.Path.{◌≡◌, refl, sym, ap, ◌∙◌}
 use mathlib.Core.Bool.{Bool, true, false, cond}
 use mathlib.Core.List.{List, [], ◌∷◌, ◌++◌, append-nil}
+use Rattle.std.specs.Prelude.{Option, None}
+use Rattle.std.specs.Option.{option_to_list}
 use Rattle.sets.specs.Sets.{absent, is, Set, Env, as_set}
 use Rattle.attrs.specs.Packed.{packed}
 use Rattle.rules.specs.Reading.{Glyph, unit, thing, units_of, insert, delete, retain}
@@ -13,13 +15,14 @@ use Rattle.laws.proofs.Fits.{in-append, in-units}
 use Rattle.ops.specs.declared.delta.Inserted.{Inserted}
 use Rattle.ops.specs.declared.delta.Inserted.TheVariants.{Text, Embed}
 use Rattle.ops.specs.declared.delta.Op.TheVariants.{Insert}
-use Rattle.assembling.specs.declared.runs.Action.{Action}
-use Rattle.assembling.specs.declared.runs.Action.TheVariants.{Idle, Inserting, Deleting, Retaining}
+use Rattle.assembling.specs.declared.runs.Kind.TheVariants.{Inserting, Deleting, Retaining}
+use Rattle.assembling.specs.declared.runs.Run.{Run as Kept}
 use Rattle.assembling.specs.declared.assembler.Assembler.{Assembler}
 use Rattle.assembling.specs.declared.runs.Turn.{Turn}
+use Rattle.assembling.specs.declared.runs.Turn.TheVariants.{Goes, Starts}
 use Rattle.assembling.specs.declared.assembler.Passed.{Passed}
-use Rattle.assembling.specs.Steps.{inserted_by, action_op, grow_insert_by, grow_delete_by, grow_retain_by, turned_by, pending_of, breaks_by, mark_turn, goes_on, begins}
-use Rattle.events.specs.Told.{Ops, part_of, delta_ops, ops_in}
+use Rattle.assembling.specs.Steps.{of_kind, inserted_by, run_op, grow_insert_by, grow_delete_by, grow_retain_by, turned_by, pending_of, breaks_by, mark_turn}
+use Rattle.events.specs.Told.{Ops, part_of, delta_ops}
 
 -- ---- glyphs are counted
 
@@ -31,14 +34,14 @@ told-append (retain n s ∷ a) b = told-append a b
 
 -- ---- the assembler that stands for the rules'
 
-abbrev pub run_of : Run → Action
-run_of idle = Idle
-run_of (inserting gs) = Inserting (in_units gs)
-run_of (deleting n) = Deleting n
-run_of (retaining n) = Retaining n
+abbrev pub run_of : Run → Option Kept
+run_of idle = None
+run_of (inserting gs) = of_kind Inserting (in_units gs)
+run_of (deleting n) = of_kind Deleting n
+run_of (retaining n) = of_kind Retaining n
 
 abbrev pub code_of : ℕ → Asm → Assembler
-code_of p t = record { action = run_of t.run; units = p; attrs = packed t.attrs; current = packed (as_set t.cur); old = packed (as_set t.old) }
+code_of p t = record { run = run_of t.run; units = p; attrs = packed t.attrs; current = packed (as_set t.cur); old = packed (as_set t.old) }
 
 -- a run of insertion has gathered units alone
 abbrev pub Plain : Run → Type 0
@@ -59,7 +62,7 @@ plain-append (thing e ∷ gs) s n h p = let z : Embed e ≡ Text p (in_units gs)
 -- ---- turns
 
 abbrev pub turn_of : Step → Turn
-turn_of s = record { ends = s.ends; action = run_of s.then }
+turn_of s = cond s.ends (Starts (run_of s.then)) (Goes (run_of s.then))
 
 -- the turn is the rules' step, which tells nothing besides and leaves a plain run
 pub record Turns (T : Turn) (s : Step) (r : Run) : Type 0 where
@@ -67,16 +70,16 @@ pub record Turns (T : Turn) (s : Step) (r : Run) : Type 0 where
   pub quiet : s.tells ≡ []
   pub plain : Plain r → Plain s.then
 
-pub goes_on_lem : (r : Run) → Turns (goes_on (run_of r)) (goes r) r
+pub goes_on_lem : (r : Run) → Turns (Goes (run_of r)) (goes r) r
 goes_on_lem r = record { turn = refl; quiet = refl; plain = λ h. h }
 
-starts-text : (s n : ℕ) (r : Run) → Turns (begins (Inserting n)) (starts (inserting (units_of s n))) r
-starts-text s n r = record { turn = ap (λ (x : ℕ). begins (Inserting x)) (sym (in-units s n)); quiet = refl; plain = λ h. plain-units s n }
+starts-text : (s n : ℕ) (r : Run) → Turns (Starts (of_kind Inserting n)) (starts (inserting (units_of s n))) r
+starts-text s n r = record { turn = ap (λ (x : ℕ). Starts (of_kind Inserting x)) (sym (in-units s n)); quiet = refl; plain = λ h. plain-units s n }
 
 pub grows-insert : (s n : ℕ) (r : Run) → Turns (grow_insert_by n (run_of r)) (grow_insert (units_of s n) r) r
 grows-insert s n idle = starts-text s n idle
 grows-insert s n (inserting hs) = record {
-  turn = ap (λ (x : ℕ). goes_on (Inserting x)) (sym (in-append hs (units_of s n) ∙ ap (λ (x : ℕ). in_units hs + x) (in-units s n)));
+  turn = ap (λ (x : ℕ). Goes (of_kind Inserting x)) (sym (in-append hs (units_of s n) ∙ ap (λ (x : ℕ). in_units hs + x) (in-units s n)));
   quiet = refl;
   plain = plain-append hs s n;
 }
@@ -106,17 +109,17 @@ breaks-is (becomes (is v)) now (retaining n) = refl
 pub marks_turn : (ch : Change) (now : Bool) (r : Run) → Turns (mark_turn (pending_of ch) now (run_of r)) (mark_step ch now r) r
 marks_turn ch now r = rw (breaks-is ch now r) (go (breaks ch now r))
   where
-    go : (b : Bool) → Turns (cond b (begins Idle) (goes_on (run_of r))) (cond b (starts idle) (goes r)) r
+    go : (b : Bool) → Turns (cond b (Starts None) (Goes (run_of r))) (cond b (starts idle) (goes r)) r
     go true = record { turn = refl; quiet = refl; plain = λ h. tt }
     go false = goes_on_lem r
 
 -- ---- the run that ends is told
 
-pub op-told : (p : ℕ) (t : Asm) → Plain t.run → ops_in (action_op (run_of t.run) (code_of p t)) ≡ delta_ops p (add_op t.run t.attrs t.cur)
-unfolding ops_in delta_ops
+pub op-told : (p : ℕ) (t : Asm) → Plain t.run → option_to_list (run_op (run_of t.run) (code_of p t)) ≡ delta_ops p (add_op t.run t.attrs t.cur)
+unfolding delta_ops
 op-told p t h = go t.run h
   where
-    go : (r : Run) → Plain r → ops_in (action_op (run_of r) (code_of p t)) ≡ delta_ops p (add_op r t.attrs t.cur)
+    go : (r : Run) → Plain r → option_to_list (run_op (run_of r) (code_of p t)) ≡ delta_ops p (add_op r t.attrs t.cur)
     go idle h = refl
     go (inserting gs) h = ap (λ (x : Inserted). record { op = Insert x; attrs = packed (as_set t.cur) } ∷ []) (sym (h p))
     go (deleting n) h = refl
@@ -130,7 +133,7 @@ units-told (retaining n) a c = refl
 
 -- What a step has to give: the operations told, the assembler after it, and that its run is plain.
 pub record Steps (P : Passed) (p : ℕ) (ops : Ops) (t : Asm) : Type 0 where
-  pub tells : ops_in P.first ++ ops_in P.second ≡ delta_ops p ops
+  pub tells : option_to_list P.first ++ option_to_list P.second ≡ delta_ops p ops
   pub asm : P.asm ≡ code_of (p + told_units ops) t
   pub plain : Plain t.run
 
@@ -139,10 +142,10 @@ abbrev pub on_run : Asm → Run → Asm
 on_run t r = record { run = r; attrs = t.attrs; cur = t.cur; old = t.old }
 
 turned_steps : (p : ℕ) (t : Asm) (b : Bool) (r : Run) → Plain t.run → Plain r
-    → Steps (turned_by (code_of p t) (record { ends = b; action = run_of r })) p (cond b (add_op t.run t.attrs t.cur) []) (on_run t r)
-unfolding ops_in delta_ops
+    → Steps (turned_by (code_of p t) (cond b (Starts (run_of r)) (Goes (run_of r)))) p (cond b (add_op t.run t.attrs t.cur) []) (on_run t r)
+unfolding delta_ops
 turned_steps p t true r h g = record {
-  tells = append-nil (ops_in (action_op (run_of t.run) (code_of p t))) ∙ op-told p t h;
+  tells = append-nil (option_to_list (run_op (run_of t.run) (code_of p t))) ∙ op-told p t h;
   asm = ap (λ (x : ℕ). code_of (p + x) (on_run t r)) (units-told t.run t.attrs t.cur);
   plain = g;
 }

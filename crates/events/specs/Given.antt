@@ -1,11 +1,26 @@
 -- What an event call gives: its answer, and what it writes at the front of the lent numbers and units.
-use Rattle.std.specs.Prelude.{ℕ, ◌*◌, Bool, cond, ◌&&◌, List, [], ◌++◌, leb, length, drop}
+use Rattle.std.specs.Prelude.{ℕ, ◌*◌, Bool, cond, ◌&&◌, List, [], ◌++◌, leb, length, drop, Result}
+use Rattle.std.specs.Result.{result_unwrap_or}
+use Rattle.refusal.specs.declared.Refusal.{Refusal}
+use Rattle.refusal.specs.Numbers.{refusal_in}
 use Rattle.rules.specs.Reading.{Seen}
 use Rattle.rules.specs.Event.{event, told_units}
 use Rattle.layout.specs.declared.head.Head.{Head}
 use Rattle.layout.specs.Memory.{list_of, sound_of}
-use Rattle.events.specs.declared.event.EventAnswer.{EventAnswer}
+use Rattle.events.specs.declared.event.Written.{Written}
 use Rattle.events.specs.Told.{Ops, encoded, texts}
+
+-- What is answered: the refusal's number, 0 for none, and how many operations and units; none beside a refusal.
+pub record EventAnswer : Type 0 where
+  pub refusal : ℕ
+  pub ops : ℕ
+  pub units : ℕ
+
+abbrev pub counted : ℕ → Written → EventAnswer
+counted n w = record { refusal = n; ops = w.ops; units = w.units }
+
+abbrev pub answered : Result Written Refusal → EventAnswer
+answered r = counted (refusal_in r) (result_unwrap_or r (record { ops = 0; units = 0 }))
 
 pub record Given : Type 0 where
   pub answer : EventAnswer

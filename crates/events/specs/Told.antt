@@ -11,9 +11,6 @@ use Rattle.ops.specs.declared.delta.Inserted.TheVariants.{Text, Embed}
 use Rattle.ops.specs.declared.delta.Op.{Op as Kind}
 use Rattle.ops.specs.declared.delta.Op.TheVariants.{Insert, Delete, Retain}
 use Rattle.ops.specs.declared.delta.DeltaOp.{DeltaOp}
-use Rattle.encoding.specs.declared.Found.{Found}
-use Rattle.encoding.specs.declared.Found.TheVariants.{Is, Nothing}
-use Rattle.encoding.specs.declared.MaybeOp.{MaybeOp}
 use Rattle.encoding.specs.Words.{words_of, all_words}
 use Rattle.events.specs.declared.telling.Count.{Count}
 
@@ -88,10 +85,3 @@ telling n w = record { told = n.told; kept = n.kept; words = w }
 
 abbrev pub begun : List ℕ → Telling
 begun w = record { told = 0; kept = 0; words = w }
-
-abbrev pub found_ops : Found → Attrs → List DeltaOp
-found_ops (Is o) a = record { op = o; attrs = a } ∷ []
-found_ops Nothing a = []
-
-unfoldable pub ops_in : MaybeOp → List DeltaOp
-ops_in m = found_ops m.op m.attrs

@@ -7,8 +7,7 @@ use Rattle.rules.specs.Event.{Asm, gather, fresh, told_units}
 use Rattle.layout.specs.declared.head.Head.{Head}
 use Rattle.layout.specs.Chain.{walks}
 use Rattle.layout.specs.Memory.{list_of}
-use Rattle.events.specs.declared.walk.Measure.{Measure}
-use Rattle.events.specs.declared.fill.Piece.{Piece}
+use Rattle.events.specs.declared.event.Written.{Written}
 use Rattle.assembling.specs.Steps.{was_by, is_by}
 use Rattle.events.specs.Told.{Ops, delta_ops, tell_all, begun}
 
@@ -25,26 +24,21 @@ abbrev pub gathered : Bool → Asm → List Item → Ops
 gathered back t l = gather (was_by back) (is_by back) t l
 
 -- the answer and the numbers at exit
-pub record Walked (back : Bool) (limit : ℕ) (l : List Item) (r : Measure) (w₀ w : List ℕ) : Type 0 where
+pub record Walked (back : Bool) (limit : ℕ) (l : List Item) (r : Written) (w₀ w : List ℕ) : Type 0 where
   pub ops : r.ops ≡ (tell_all limit (begun w₀) (delta_ops 0 (gathered back fresh l))).kept
   pub units : r.units ≡ told_units (gathered back fresh l)
   pub words : w ≡ (tell_all limit (begun w₀) (delta_ops 0 (gathered back fresh l))).words
 
 -- The text that an item gives anew: one that was not seen and is seen.
-abbrev pub none : Piece
-none = record { start = 0; len = 0 }
+abbrev pub text_glyphs : What → List Glyph
+text_glyphs (text s n) = units_of s n
+text_glyphs (embed e) = []
+text_glyphs (mark k v) = []
 
-abbrev pub text_piece : What → Piece
-text_piece (text s n) = record { start = s; len = n }
-text_piece (embed e) = none
-text_piece (mark k v) = none
-
-abbrev pub piece_by : Bool → Bool → What → Piece
-piece_by was now w = cond was none (cond now (text_piece w) none)
+abbrev pub new_glyphs : Bool → Bool → What → List Glyph
+new_glyphs was now w = cond was [] (cond now (text_glyphs w) [])
 
 -- The units that all items give anew.
 unfoldable pub given_by : Bool → List Item → List Glyph
 given_by back [] = []
-given_by back (i ∷ l) =
-    units_of (piece_by (was_by back i.flags) (is_by back i.flags) i.what).start (piece_by (was_by back i.flags) (is_by back i.flags) i.what).len
-    ++ given_by back l
+given_by back (i ∷ l) = new_glyphs (was_by back i.flags) (is_by back i.flags) i.what ++ given_by back l

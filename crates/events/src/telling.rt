@@ -1,9 +1,9 @@
 // Operations told one after the other: counted all, written while fewer than a limit are.
-ghost use Rattle.std.specs.Prelude.{◌≡◌, ◌+◌, ◌*◌, ◌<◌, ◌≤◌, length};
-ghost use Rattle.events.specs.Told.{plain_kind, kept_by, wrote_by, telling, tell_all, ops_in};
+ghost use Rattle.std.specs.Prelude.{◌≡◌, ◌*◌, ◌<◌, ◌≤◌, length};
+ghost use Rattle.std.specs.Option.{option_to_list};
+ghost use Rattle.events.specs.Told.{plain_kind, telling, tell_all};
 
-use attrs::Attrs;
-use encoding::{Found, MaybeOp, write_op};
+use encoding::write_op;
 use ops::delta::{DeltaOp, Op};
 
 // `kept` is `told` at the last operation that is no plain Retain: those behind it are dropped.
@@ -13,54 +13,24 @@ pub struct Count {
     pub kept: u32,
 }
 
-fn plain(op: Op, attrs: Attrs) -> bool
-    ensures { result ≡ plain_kind op attrs }
+fn plain(d: DeltaOp) -> bool
+    ensures { result ≡ plain_kind d.op d.attrs }
 {
-    match op {
-        Op::Insert(_) => false,
-        Op::Delete(_) => false,
-        Op::Retain(_) => attrs.is_empty(),
-    }
-}
-
-fn kept(n: Count, d: DeltaOp) -> u32
-    requires { n.told < 4294967295 }
-    ensures { result ≡ kept_by n.told n.kept d }
-{
-    let op = d.op;
-    let attrs = d.attrs;
-    if plain(op, attrs) {
-        return n.kept;
-    }
-    n.told + 1
-}
-
-fn write(ops: &mut [u32], told: u32, limit: u32, d: DeltaOp)
-    requires { limit * 8 ≤ length ops.old }
-    ensures { ops.new ≡ wrote_by limit told ops.old d }
-{
-    if told < limit {
-        write_op(ops, told, d);
-    }
+    matches!(d.op, Op::Retain(_)) && d.attrs.is_empty()
 }
 
 // An operation, if there is one.
-pub(crate) fn tell(ops: &mut [u32], n: Count, limit: u32, m: MaybeOp) -> Count
+#[tactic(auto, unfolding(crate::specs::Told::tell_all))]
+pub(crate) fn tell(ops: &mut [u32], n: Count, limit: u32, op: Option<DeltaOp>) -> Count
     requires limit_in_bounds { limit * 8 ≤ length ops.old }
     requires told_bound { n.told < 4294967295 }
-    ensures { telling result ops.new ≡ tell_all limit (telling n ops.old) (ops_in m) }
+    ensures { telling result ops.new ≡ tell_all limit (telling n ops.old) (option_to_list op) }
 {
-    let found = m.op;
-    let attrs = m.attrs;
-    match found {
-        Found::Is(op) => {
-            let d = DeltaOp { op, attrs };
-            write(ops, n.told, limit, d);
-            Count {
-                told: n.told + 1,
-                kept: kept(n, d),
-            }
-        }
-        Found::Nothing => n,
+    let Some(d) = op else { return n };
+    if n.told < limit {
+        write_op(ops, n.told, d);
     }
+    let told = n.told + 1;
+    let kept = if plain(d) { n.kept } else { told };
+    Count { told, kept }
 }

@@ -1,5 +1,8 @@
 -- Operations by value: what they say to the rules, and a delta that grows.
-use Rattle.std.specs.Prelude.{ℕ, ◌+◌, cond, List, map, ltb, take, drop, set, replicate}
+use Rattle.std.specs.Prelude.{ℕ, ◌+◌, cond, List, map, ltb, take, drop, set, replicate, Result}
+use Rattle.std.specs.Result.{result_unwrap_or}
+use Rattle.refusal.specs.declared.Refusal.{Refusal}
+use Rattle.refusal.specs.Numbers.{refusal_in}
 use Rattle.sets.specs.Sets.{Set, empty}
 use Rattle.attrs.specs.Packed.{says, packed}
 use Rattle.rules.specs.Calls.{Body, words, object}
@@ -10,7 +13,6 @@ use Rattle.ops.specs.declared.delta.Op.{Op}
 use Rattle.ops.specs.declared.delta.Op.TheVariants.{Insert, Delete, Retain}
 use Rattle.ops.specs.declared.delta.DeltaOp.{DeltaOp}
 use Rattle.ops.specs.declared.delta.Delta.{Delta}
-use Rattle.ops.specs.declared.delta.Pushed.{Pushed}
 
 -- What an Inserted holds, with its text's units.
 abbrev pub body_of : List ℕ → Inserted → Body
@@ -36,6 +38,15 @@ no_op = record { op = Retain 0; attrs = packed empty }
 
 unfoldable pub empty_delta : Delta
 empty_delta = record { count = 0; ops = replicate 256 no_op }
+
+-- What a push answers: the refusal's number, 0 for none, and the delta after it.
+pub record Pushed : Type 0 where
+  pub refusal : ℕ
+  pub delta : Delta
+
+-- Its answer so read: a refused one leaves the delta as it was.
+abbrev pub took : Delta → Result Delta Refusal → Pushed
+took d r = record { refusal = refusal_in r; delta = result_unwrap_or r d }
 
 -- A delta with one operation more. Refusal 7 (MANY), exactly when there are 256 already.
 unfoldable pub pushed : Delta → DeltaOp → Pushed

@@ -1,8 +1,9 @@
 // Operations by value. The attribute set of an operation lies beside it; a Delete's is not read.
 ghost use Rattle.std.specs.Prelude.{◌≡◌};
-ghost use Rattle.ops.specs.Ops.{empty_delta, pushed};
+ghost use Rattle.ops.specs.Ops.{empty_delta, pushed, took};
 
 use attrs::Attrs;
+use refusal::Refusal;
 
 // A part of the lent units, or an embed.
 #[derive(Clone, Copy)]
@@ -30,16 +31,10 @@ pub struct Delta {
     pub ops: [DeltaOp; 256],
 }
 
-// Refusal 0 and the longer delta, or refusal 7 and the delta as it was.
-#[derive(Clone, Copy)]
-pub struct Pushed {
-    pub refusal: u32,
-    pub delta: Delta,
-}
-
 impl Delta {
     pub const OPS: u32 = 256;
 
+    #[tactic(auto, unfolding(crate::specs::Ops::empty_delta))]
     pub fn empty() -> Delta
         ensures { result ≡ empty_delta }
     {
@@ -54,22 +49,17 @@ impl Delta {
     }
 
     // One operation more.
-    pub fn push(self, op: DeltaOp) -> Pushed
-        ensures { result ≡ pushed self op }
+    #[tactic(auto, unfolding(crate::specs::Ops::pushed))]
+    pub fn push(self, op: DeltaOp) -> Result<Delta, Refusal>
+        ensures { took self result ≡ pushed self op }
     {
         if self.count >= Delta::OPS {
-            return Pushed {
-                refusal: 7,
-                delta: self,
-            };
+            return Err(Refusal::Many);
         }
         let mut out = self;
         let i = self.count as usize;
         out.ops[i] = op;
         out.count = self.count + 1;
-        Pushed {
-            refusal: 0,
-            delta: out,
-        }
+        Ok(out)
     }
 }

@@ -1,16 +1,28 @@
 -- `encoding::op_at` meets its contract. Assumes nothing.
-use borrow.Author.Tests.{lt-ltb, le-ltb}
-use Rattle.encoding.specs.Words.{found_at, op_from}
+use Prim.Native.Nat.{◌*◌}
+use native.Mathlib.Omega.{arith}
+use mathlib.Core.Path.{sym, ap, ◌∙◌}
+use lib.ListN.{length-drop, take}
+use lib.Seq.{take_all}
+use Rattle.encoding.proofs.Parts.{from_chunk, past_end, at_place}
 use Rattle.encoding.proofs.op_at.Goals as goal
 
-pub returns-then-at-words : goal.returns-then-at-words
-unfolding found_at
-returns-then-at-words c = rw (c.empty.ensures, lt-ltb _ _ c.if-at-words.true)
+pub returns-in_err-rest : goal.returns-in_err-rest
+returns-in_err-rest c =
+    let h = c.in_err-rest.ensures.lookup in
+    c.from_residual.ensures ∙ sym (past_end c.args.words.now c.args.i (omega (arith, h)))
 
-pub returns-then-mask-gt65535 : goal.returns-then-mask-gt65535
-unfolding found_at op_from
-returns-then-mask-gt65535 c = rw (c.empty-then-mask-gt65535.ensures, le-ltb _ _ c.if-at-words.false, lt-ltb _ _ c.if-mask-gt65535.true)
+pub returns-in_err-word : goal.returns-in_err-word
+returns-in_err-word c =
+    let h = c.in_err-word.ensures.cases in
+    let k = c.in_ok-rest.ensures.lookup.0 in
+    c.from_residual-in_err-word.ensures ∙ sym (past_end c.args.words.now c.args.i (omega (arith, h, k.3)))
 
 pub returns : goal.returns
-unfolding found_at op_from
-returns c = rw (c.bytes-values.ensures, c.kind_of-op.ensures, le-ltb _ _ c.if-at-words.false, le-ltb _ _ c.if-mask-gt65535.false)
+returns c =
+    let w = c.args.words.now in
+    let k = c.in_ok-word.ensures.cases in
+    let l = c.in_ok-rest.ensures.lookup.0 in
+    c.op_in.ensures
+    ∙ from_chunk w c.in_ok-word.word.now (c.args.i * 8) (k.same ∙ ap (take 8) (l.2 ∙ take_all _ _ (omega (arith, length-drop (c.args.i * 8) w))))
+    ∙ sym (at_place w c.args.i (omega (arith, k.enough, l.3)))

@@ -1,41 +1,38 @@
 -- `events::event::event` meets its contract. Assumes nothing.
 use native.Mathlib.Omega.{arith}
-use mathlib.Core.Path.{refl, sym, ap₂, ◌∙◌}
+use mathlib.Core.Path.{◌≡◌, refl, sym, ap₂, ◌∙◌}
 use Prim.Native.Nat.{ℕ}
+use lib.ListN.{length}
+use Rattle.rules.specs.Reading.{before, live}
+use Rattle.events.specs.Given.{given, refused}
 use Rattle.layout.proofs.Soundness.{sound-parts}
 use Rattle.events.proofs.Events.{walkable, given-broken, same, ops-is, units-is, no_words, no-units, all-fits, wrote, text-room, filled}
 use Rattle.events.proofs.event.event.Goals as goal
+use Rattle.events.proofs.event.event.Goals.{then-m-ops-via-then-m-ops, then-m-ops-via-else-m-ops+then-m-out}
 
 pub returns-then-not-sound : goal.returns-then-not-sound
 returns-then-not-sound c =
     let a = c.args in
-    rw (given-broken a.h a.items.now a.units.now _ _ (sym c.sound.ensures ∙ c.if-not-sound.true)) (record { answer = c.refuse.ensures; words = refl; texts = refl })
+    rw (given-broken a.h a.items.now a.units.now _ _ (sym c.sound.ensures ∙ c.if-not-sound.true)) (record { answer = refl; words = refl; texts = refl })
 
-pub walk-m-requires : goal.walk-m-requires
-walk-m-requires c =
-    let a = c.args in
-    let ok = sym c.sound.ensures ∙ c.if-not-sound.false in
-    record { walkable = walkable a.h a.items.now a.units.now ok; limit_in_bounds = omega arith }
+pub walk-m-requires-clause-walkable : goal.walk-m-requires-clause-walkable
+walk-m-requires-clause-walkable c = walkable c.args.h c.args.items.now c.args.units.now (sym c.sound.ensures ∙ c.if-not-sound.false)
 
 pub returns-then-m-ops : goal.returns-then-m-ops
 returns-then-m-ops c =
     let a = c.args in
     let ok = sym c.sound.ensures ∙ c.if-not-sound.false in
     let k = c.walk-m.ensures in
-    rw (no_words a.h a.items.now a.units.now ok _ a.out.now _ _ k c.if-m-ops.true) (record { answer = c.refuse-then-m-ops.ensures; words = same a.h a.items.now a.units.now ok _ a.out.now _ _ k; texts = refl })
+    let short : given before live a.h a.items.now a.units.now (length a.ops.now) (length a.out.now) ≡ refused 8 =
+    elim c.then-m-ops.branch [
+      | then-m-ops-via-then-m-ops w ↦ no_words a.h a.items.now a.units.now ok _ a.out.now _ _ k w.if-m-ops.true
+      | then-m-ops-via-else-m-ops+then-m-out w ↦ no-units a.h a.items.now a.units.now ok _ a.out.now _ _ k w.if-m-ops.false w.if-m-out.true
+    ]
+    in
+    rw short (record { answer = refl; words = same a.h a.items.now a.units.now ok _ a.out.now _ _ k; texts = refl })
 
-pub returns-then-m-out : goal.returns-then-m-out
-returns-then-m-out c =
-    let a = c.args in
-    let ok = sym c.sound.ensures ∙ c.if-not-sound.false in
-    let k = c.walk-m.ensures in
-    rw (no-units a.h a.items.now a.units.now ok _ a.out.now _ _ k c.if-m-ops.false c.if-m-out.true) (record { answer = c.refuse-then-m-out.ensures; words = same a.h a.items.now a.units.now ok _ a.out.now _ _ k; texts = refl })
-
-pub walk-requires : goal.walk-requires
-walk-requires c =
-    let a = c.args in
-    let ok = sym c.sound.ensures ∙ c.if-not-sound.false in
-    record { walkable = walkable a.h a.items.now a.units.now ok; limit_in_bounds = c.if-m-ops.false }
+pub walk-requires-clause-walkable : goal.walk-requires-clause-walkable
+walk-requires-clause-walkable c = walkable c.args.h c.args.items.now c.args.units.now (sym c.sound.ensures ∙ c.if-not-sound.false)
 
 pub fill-requires : goal.fill-requires
 fill-requires c =

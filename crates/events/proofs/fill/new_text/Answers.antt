@@ -1,18 +1,13 @@
 -- `events::fill::new_text` meets its contract. Assumes nothing.
-use borrow.Author.Tests.{not-true, not-false}
+use native.Mathlib.Omega.{arith}
+use mathlib.Core.Path.{◌≡◌, sym}
+use borrow.Author.Tests.{not-true}
+use Prim.Native.Nat.{◌+◌, ◌-◌}
+use Rattle.events.proofs.Texts.{part-is}
 use Rattle.events.proofs.fill.new_text.Goals as goal
 
-pub returns-then-s : goal.returns-then-s
-returns-then-s c = rw c.if-s.true
-
-pub returns-then-not-s : goal.returns-then-not-s
-returns-then-not-s c = rw (c.if-s.false, not-true c.args.s.is c.if-not-s.true)
-
 pub returns-in-Text : goal.returns-in-Text
-returns-in-Text c = rw (c.if-s.false, not-false c.args.s.is c.if-not-s.false, c.in-Text.is)
-
-pub returns-in-Embed : goal.returns-in-Embed
-returns-in-Embed c = rw (c.if-s.false, not-false c.args.s.is c.if-not-s.false, c.in-Embed.is)
-
-pub returns-in-Mark : goal.returns-in-Mark
-returns-in-Mark c = rw (c.if-s.false, not-false c.args.s.is c.if-not-s.false, c.in-Mark.is)
+returns-in-Text c =
+    let inside = rw c.in-Text.is at c.requires in
+    let n : c.in-Text.start + c.in-Text.len - c.in-Text.start ≡ c.in-Text.len = omega arith in
+    rw (n, c.in-Text.is, not-true c.args.s.was c.if-not-s.true, c.if-s.true) (sym (part-is c.args.units.now c.in-Text.start c.in-Text.len inside.1))
