@@ -1,9 +1,9 @@
--- `cursors::cursor::skip` meets its contract. Assumes nothing.
+-- `cursors::walk::skip` meets its contract. Assumes nothing.
 use mathlib.Core.Path.{refl, sym, ◌∙◌}
 use native.Mathlib.Omega.{arith}
 use Rattle.cursors.proofs.Spots.{Stepped, steps, skip_turn}
-use Rattle.cursors.proofs.cursor.skip.Goals as goal
-use Rattle.cursors.proofs.cursor.skip.Goals.{In-loop-s}
+use Rattle.cursors.proofs.walk.skip.Goals as goal
+use Rattle.cursors.proofs.walk.skip.Goals.{In-loop-s}
 
 -- the place stands, and there is an item
 stepped : (c : In-loop-s) → Stepped c.args.items.now c.loop-s.s
@@ -12,14 +12,14 @@ stepped c = steps _ _ c.loop-s.invariant.0 c.loop-s-test.true
 pub loop-s-init : goal.loop-s-init
 loop-s-init c = (c.requires, (λ j. refl), omega arith)
 
-pub overflow_cast-i : goal.overflow_cast-i
-overflow_cast-i c = omega (arith, (stepped (goal.at.overflow_cast-i c).In-loop-s).below)
+pub overflow_cast-s : goal.overflow_cast-s
+overflow_cast-s c = omega (arith, (stepped (goal.at.overflow_cast-s c).In-loop-s).below)
 
-pub offset_bounds-items-i : goal.offset_bounds-items-i
-offset_bounds-items-i c = omega (arith, (stepped (goal.at.offset_bounds-items-i c).In-loop-s).below)
+pub offset_bounds-items-s : goal.offset_bounds-items-s
+offset_bounds-items-s c = omega (arith, (stepped (goal.at.offset_bounds-items-s c).In-loop-s).below)
 
-pub bounds-items-i : goal.bounds-items-i
-bounds-items-i c = (stepped (goal.at.bounds-items-i c).In-loop-s).below
+pub bounds-items-s : goal.bounds-items-s
+bounds-items-s c = (stepped (goal.at.bounds-items-s c).In-loop-s).below
 
 pub returns-then-not-passes : goal.returns-then-not-passes
 returns-then-not-passes c =
