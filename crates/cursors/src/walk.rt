@@ -20,7 +20,7 @@ pub struct Spot {
 
 impl Spot {
     // In front of the first item.
-    pub fn start(h: Head) -> Spot
+    fn start(h: Head) -> Spot
         ensures { result ≡ start_of h }
     {
         Spot {
@@ -33,7 +33,7 @@ impl Spot {
 }
 
 // The runs from a place on. `joined` merges neighbouring texts on which the same is in force.
-#[derive(Clone, Copy)]
+#[derive(Drop)]
 pub struct Runs<'a> {
     items: &'a [u64],
     joined: bool,

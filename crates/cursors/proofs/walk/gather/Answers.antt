@@ -29,12 +29,6 @@ loop-s-init c =
       omega arith,
     )
 
-pub overflow_cast-s : goal.overflow_cast-s
-overflow_cast-s c = omega (arith, (stepped (goal.at.overflow_cast-s c).In-loop-s).below)
-
-pub offset_bounds-items-s : goal.offset_bounds-items-s
-offset_bounds-items-s c = omega (arith, (stepped (goal.at.offset_bounds-items-s c).In-loop-s).below)
-
 pub bounds-items-s : goal.bounds-items-s
 bounds-items-s c = (stepped (goal.at.bounds-items-s c).In-loop-s).below
 
@@ -49,11 +43,8 @@ returns-then-ends c =
       on = c.loop-s.invariant.3;
     }
 
-pub past-s-requires : goal.past-s-requires
-past-s-requires c = record { todo_nonzero = c.loop-s-test.true; content_bound = rw c.unpack-it.ensures (stepped (goal.at.past-s-requires c).In-loop-s).sum }
-
-pub loop-s-smaller : goal.loop-s-smaller
-loop-s-smaller c = rw c.past-s.ensures (omega (arith, c.loop-s-test.true))
+pub past-s-requires-clause-content_bound : goal.past-s-requires-clause-content_bound
+past-s-requires-clause-content_bound c = rw c.unpack-it.ensures (stepped (goal.at.past-s-requires-clause-content_bound c).In-loop-s).sum
 
 pub loop-s-preserved : goal.loop-s-preserved
 loop-s-preserved c =
