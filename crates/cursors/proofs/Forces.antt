@@ -1,7 +1,7 @@
 -- What is in force, as a set by value. Assumes nothing.
 use Prim.Native.Nat.{ℕ, ◌<◌}
 use mathlib.Core.Path.{◌≡◌, refl, sym, ap, ap₂, ◌∙◌}
-use mathlib.Core.Bool.{Bool, true, false, cond}
+use mathlib.Core.Bool.{Bool, true, false}
 use lib.Dec.{eqb}
 use lib.ListN.{length}
 use borrow.Author.Tests.{eqb-true}
@@ -17,7 +17,6 @@ use Rattle.attrs.proofs.Force.{within_keyed, env_update, env-packed, update-pack
 use Rattle.rules.specs.Sheet.{What, text, embed, mark, Item}
 use Rattle.rules.specs.Reading.{live, pass_key}
 use Rattle.rules.specs.Sound.{Fits}
-use Rattle.layout.specs.Word.{live_mark}
 use Rattle.cursors.specs.Cursors.{mark_on, passed_by, Plain}
 
 -- nothing is in force at the start
@@ -28,17 +27,6 @@ pub plain-none : Plain (packed empty)
 plain-none = sym (ap (λ (e : Env). packed (as_set e)) env-none)
 
 -- ---- an item is passed
-
--- only at a live mark something changes
-pub mark-told : (a : Attrs) (d : Bool) (w : What) (b : Bool) → live_mark d w ≡ b → passed_by a d w ≡ cond b (mark_on a w) a
-unfolding passed_by mark_on
-mark-told a d w b e = go d w ∙ ap (λ (x : Bool). cond x (mark_on a w) a) e
-  where
-    go : (d : Bool) (w : What) → passed_by a d w ≡ cond (live_mark d w) (mark_on a w) a
-    go true w = refl
-    go false (text s n) = refl
-    go false (embed x) = refl
-    go false (mark k v) = refl
 
 module _ (a : Attrs) (used : ℕ) where
   plain-update : (k v : ℕ) → k < 16 → v < 256 → Plain a → Plain (update_at a k v).attrs

@@ -14,7 +14,7 @@ use Rattle.rules.specs.Sound.{Fits}
 use Rattle.rules.specs.Runs.{Run as Stretch, object, runs_from, ahead, joined}
 use Rattle.layout.specs.Word.{shown_len}
 use Rattle.cursors.specs.declared.run.Run.{Run}
-use Rattle.cursors.specs.declared.cursor.Spot.{Spot}
+use Rattle.cursors.specs.declared.walk.Spot.{Spot}
 use Rattle.cursors.specs.Records.{records_of, runs_by}
 use Rattle.cursors.specs.Cursors.{mark_on, passed_by, stops_at, ends_by, rest, records_at, Plain, Stands, text_record}
 use Rattle.cursors.proofs.Merges.{stretch, same_refl, ahead-ahead, open-ahead}

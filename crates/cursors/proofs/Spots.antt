@@ -20,10 +20,9 @@ use Rattle.layout.specs.Word.{what_of, unpack_of}
 use Rattle.layout.specs.Chain.{chain, item_at, next_at}
 use Rattle.layout.proofs.Links.{walks-lt, walks_next, chain-step}
 use Rattle.cursors.specs.declared.run.Run.{Run}
-use Rattle.cursors.specs.declared.cursor.Spot.{Spot}
-use Rattle.cursors.specs.declared.cursor.Cursor.{Cursor}
+use Rattle.cursors.specs.declared.walk.Spot.{Spot}
 use Rattle.cursors.specs.Records.{record_of, records_of, runs_by}
-use Rattle.cursors.specs.Cursors.{passes_of, mark_on, passed_by, past_of, rest, records_at, Plain, Stands, text_record, embed_record, Skipped, Gathered, Next}
+use Rattle.cursors.specs.Cursors.{passes_of, mark_on, passed_by, past_of, rest, records_at, Plain, Stands, text_record, embed_record, Skipped, Gathered}
 use Rattle.cursors.proofs.Forces.{plain-passed, env-passed, count-plain}
 
 -- the item at a place, and the place behind it
@@ -216,30 +215,20 @@ other (Embed x) used d t p f = absurd (t x refl)
 other (Mark k v) used true t p f = absurd (true≢false p)
 other (Mark k v) used false t p f = absurd (true≢false p)
 
-module _ (j : Bool) (m : List ℕ) (c : Cursor) (s : Spot) (sk : Skipped m c.spot s) where
-  pub next-none : (b : Run) → s.todo ≡ 0 → Next j m c (record { spot = s; found = false; run = b })
-  next-none b z =
-      record { stands = sk.stands; runs = sk.same j ∙ records-none j m s z; fewer = omega (arith, sk.fewer) }
+module _ (j : Bool) (m : List ℕ) (c s : Spot) (sk : Skipped m c s) where
+  pub next-none : s.todo ≡ 0 → (records_at j m c ≡ []) × (records_at j m s ≡ [])
+  next-none z = let e = records-none j m s z in (sk.same j ∙ e, e)
 
   module _ (h : 0 < s.todo) where
     awake : (here m s).flags.dead ≡ false
     awake = awake-of (here m s).flags.dead (here m s).what (sk.stops h)
 
-    pub next-embed : (x : ℕ) → (here m s).what ≡ embed x → Next j m c (record { spot = next m s; found = true; run = embed_record s.passed x s.force })
-    next-embed x is =
-        record {
-          stands = (steps m s sk.stands h).stands;
-          runs = sk.same j ∙ embed-here j m s sk.stands h awake x is;
-          fewer = omega (arith, sk.fewer);
-        }
+    pub next-embed : (x : ℕ) → (here m s).what ≡ embed x → records_at j m c ≡ embed_record s.passed x s.force ∷ records_at j m (next m s)
+    next-embed x is = sk.same j ∙ embed-here j m s sk.stands h awake x is
 
     pub next-text : (it : Entry) → it ≡ unpack_of (get_or m s.at 0) → ((x : ℕ) → it.content ≡ Embed x → ⊥) → (r : Spot) → Gathered j m (next m s) r
-        → Next j m c (record { spot = r; found = true; run = text_record s.passed (r.passed - s.passed) s.force })
+        → records_at j m c ≡ text_record s.passed (r.passed - s.passed) s.force ∷ records_at j m r
     next-text it e k r g =
         let t = steps m s sk.stands h in
         let o = other (unpack_of (get_or m s.at 0)).content t.used (here m s).flags.dead (subst (λ (i : Entry). (x : ℕ) → i.content ≡ Embed x → ⊥) e k) (sk.stops h) t.fits in
-        record {
-          stands = g.stands;
-          runs = sk.same j ∙ text-gathered j m s sk.stands h awake o.start o.len o.is o.some r g;
-          fewer = omega (arith, sk.fewer, g.fewer);
-        }
+        sk.same j ∙ text-gathered j m s sk.stands h awake o.start o.len o.is o.some r g

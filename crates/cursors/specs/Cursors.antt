@@ -1,5 +1,5 @@
 -- The walk from run to run: what each item does to it, and what is found.
-use Rattle.std.specs.Prelude.{ℕ, ◌+◌, ◌-◌, ◌<◌, ◌≤◌, ◌≡◌, Bool, true, false, cond, not, ◌||◌, List, [], ◌∷◌, length, drop}
+use Rattle.std.specs.Prelude.{ℕ, ◌+◌, ◌-◌, ◌<◌, ◌≤◌, ◌≡◌, Bool, true, false, cond, not, ◌||◌, List, ◌∷◌, length}
 use Rattle.sets.specs.Sets.{empty, keys, as_set, same_sets, present}
 use Rattle.attrs.specs.Packed.{says, env_of, packed, update_at}
 use Rattle.attrs.specs.declared.Attrs.{Attrs}
@@ -13,9 +13,9 @@ use Rattle.layout.specs.declared.head.Head.{Head}
 use Rattle.layout.specs.Word.{what_of}
 use Rattle.layout.specs.Chain.{chain, walks, item_at}
 use Rattle.cursors.specs.declared.run.Run.{Run}
-use Rattle.cursors.specs.declared.cursor.Spot.{Spot}
-use Rattle.cursors.specs.declared.cursor.Cursor.{Cursor}
-use Rattle.cursors.specs.Records.{blank, records_of, runs_by, records_from}
+use Rattle.cursors.specs.declared.walk.Spot.{Spot}
+use Rattle.cursors.specs.declared.walk.Runs.{Runs}
+use Rattle.cursors.specs.Records.{records_of, runs_by, records_from}
 
 -- ---- one item, by whether it is deleted, and what it is
 
@@ -79,13 +79,9 @@ text_record s n a = record { embed = false; start = s; len = n; number = 0; coun
 abbrev pub embed_record : ℕ → ℕ → Attrs → Run
 embed_record s x a = record { embed = true; start = s; len = 1; number = x; count = length (present keys (says a)); attrs = a }
 
-abbrev pub start_of : Head → Cursor
-start_of h =
-    record {
-      spot = record { at = h.first; todo = h.items; passed = 0; force = packed empty };
-      found = false;
-      run = blank;
-    }
+-- In front of the first item.
+abbrev pub start_of : Head → Spot
+start_of h = record { at = h.first; todo = h.items; passed = 0; force = packed empty }
 
 -- The place of the next text or embed: the records are the same from there.
 pub record Skipped (m : List ℕ) (s r : Spot) : Type 0 where
@@ -102,23 +98,6 @@ pub record Gathered (j : Bool) (m : List ℕ) (s r : Spot) : Type 0 where
   pub fewer : r.todo ≤ s.todo
   pub on : s.passed ≤ r.passed
 
--- What a cursor has found, and the records behind it.
-abbrev pub found : Bool → List ℕ → Cursor → List Run
-found j m c = cond c.found (c.run ∷ records_at j m c.spot) []
-
-abbrev pub one : Bool → ℕ
-one b = cond b 1 0
-
--- The next run and the place behind it, or no more.
-pub record Next (j : Bool) (m : List ℕ) (c r : Cursor) : Type 0 where
-  pub stands : Stands m r.spot
-  pub runs : records_at j m c.spot ≡ found j m r
-  pub fewer : one r.found + r.spot.todo ≤ c.spot.todo
-
--- How many runs are left.
-pub record Tallied (j : Bool) (m : List ℕ) (c : Cursor) (r : ℕ) : Type 0 where
-  pub is : r ≡ length (records_at j m c.spot)
-
--- The run n places behind the next.
-pub record Nth (j : Bool) (m : List ℕ) (n : ℕ) (c r : Cursor) : Type 0 where
-  pub runs : drop n (records_at j m c.spot) ≡ found j m r
+-- What an iterator over the runs has left.
+abbrev pub left : Runs → List Run
+left s = records_at s.joined s.items.now s.spot

@@ -2,4 +2,4 @@
 #![tactic(auto)]
 
 pub mod run; // a run by value
-pub mod cursor; // the next run, from a place in the list
+pub mod walk; // the runs from a place in the list on

@@ -2,8 +2,7 @@
 use Rattle.std.specs.Prelude.{ℕ, ◌≡◌, Bool, List, length}
 use Rattle.layout.specs.declared.head.Head.{Head}
 use Rattle.cursors.specs.declared.run.Run.{Run}
-use Rattle.runs.specs.declared.calls.Count.{Count}
-use Rattle.runs.specs.Answers.{written, records_in, planned}
+use Rattle.runs.specs.Answers.{Count, written, records_in, planned}
 
 -- The count that is answered is the number of records written: all of them, or none where the call is refused.
 pub record Filled (h : Head) (m u : List ℕ) (j : Bool) (before after : List Run) (r : Count) : Type 0 where

@@ -1,16 +1,19 @@
 -- `runs::calls::count_runs` meets its contract. Assumes nothing.
-use mathlib.Core.Path.{sym, ◌∙◌}
-use mathlib.Core.Bool.{true}
-use Rattle.runs.proofs.Tallies.{count-broken, begun, count-is}
+use Rattle.std.proofs.lemmas.Iterator.Consumers.{YieldsList-from_first, count_from_yields_List}
+use Rattle.std.proofs.lemmas.Result.{err_from_is_err_and}
+use Rattle.cursors.specs.Cursors.{left}
+use Rattle.runs.proofs.Tallies.{count-is, count-broken}
 use Rattle.runs.proofs.calls.count_runs.Goals as goal
 
-pub returns-then-not-sound : goal.returns-then-not-sound
-returns-then-not-sound c = count-broken _ _ _ _ (sym c.sound.ensures ∙ c.if-not-sound.true)
+pub returns-in_err-runs : goal.returns-in_err-runs
+returns-in_err-runs c =
+    let p = err_from_is_err_and c.from_residual.result c.from_residual.ensures.1 in
+    rw (p.1, p.2, c.in_err-runs.ensures.1) (count-broken _ _ _ _ c.in_err-runs.ensures.0)
 
-pub tally-requires : goal.tally-requires
-tally-requires c = begun _ _ _ true (sym c.sound.ensures ∙ c.if-not-sound.false) _ c.start.ensures
+pub count-requires-clause-can : goal.count-requires-clause-can
+count-requires-clause-can c = c.in_ok-runs.ensures.1
 
 pub returns : goal.returns
 returns c =
-    let ok = sym c.sound.ensures ∙ c.if-not-sound.false in
-    count-is _ _ _ _ ok _ c.start.ensures _ c.tally.ensures
+    let begun = c.in_ok-runs.ensures in
+    count-is _ _ _ _ begun.0 _ (count_from_yields_List _ _ c.count.ensures.ran (YieldsList-from_first (λ x. x) left _ begun.2))

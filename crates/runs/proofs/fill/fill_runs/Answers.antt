@@ -1,57 +1,62 @@
 -- `runs::fill::fill_runs` meets its contract. Assumes nothing.
-use Rattle.std.proofs.Common.{◌≡◌, ◌<◌, length, refl, ap, arith}
-use Rattle.runs.specs.declared.calls.Count.{Count}
-use Rattle.runs.proofs.Tallies.{planned-within}
-use Rattle.runs.proofs.Fills.{to_write, Filling, filling-start, filling-next, fill_more}
+use Rattle.std.proofs.Common.{◌≡◌, ◌<◌, ◌∷◌, ◌∙◌, length, drop, refl, sym, inl, arith}
+use Rattle.std.specs.Iterator.Adapters.{enumerate_source, enumerate_count}
+use Rattle.cursors.specs.Cursors.{left}
+use Rattle.runs.specs.Answers.{records_in}
+use Rattle.runs.proofs.Fronts.{drop-some, drop-none, drop-next, written-more}
+use Rattle.runs.proofs.Tallies.{start-stands, start-few, start-records, plan-grants}
 use Rattle.runs.proofs.fill.fill_runs.Goals as goal
-use Rattle.runs.proofs.fill.fill_runs.Goals.{In-loop-i}
-
--- what is filled so far
-abbrev filling : (c : In-loop-i) → Filling c.args.h c.args.items.now c.args.units.now c.args.joined (length c.args.out.now)
-filling c =
-    let s = c.loop-i.invariant in
-    record { at = c.loop-i.i; cursor = c.loop-i.c; within = s.within; stands = s.stands; left = s.left }
-
--- there is a record to write
-less : (c : In-loop-i) → c.loop-i.i < to_write c.args.h c.args.items.now c.args.units.now c.args.joined (length c.args.out.now)
-less c = omega (arith, c.loop-i-test.true, ap (λ (a : Count). a.count) c.plan-a.ensures)
-
--- and room for it
-room : (c : In-loop-i) → c.loop-i.i < length c.args.out.now
-room c = omega (arith, less c, planned-within c.args.h c.args.items.now c.args.units.now c.args.joined (length c.args.out.now))
+use Rattle.runs.proofs.fill.fill_runs.Goals.{In-Some}
 
 pub loop-i-init : goal.loop-i-init
 loop-i-init c =
-    let s = filling-start c.args.h c.args.items.now c.args.units.now c.args.joined (length c.args.out.now) _ c.start-c.ensures in
-    record { within = omega arith; stands = s.stands; left = s.left; out = refl }
+    let a = c.args in
+    let ok = (plan-grants a.h a.items.now a.units.now a.joined (length a.out.now) _ c.in_ok-count.ensures).0 in
+    let from = c.enumerate-i-items.ensures in
+    let new = c.new.ensures in
+    rw (c.into_iter-i-iterator.ensures.into_iter_gives, from.source, from.count, new.items, new.joined, new.spot)
+    (record {
+      can = (start-stands a.h a.items.now a.units.now ok, tt, inl (omega (arith, start-few a.h a.items.now a.units.now ok)));
+      finite = tt;
+      within = omega arith;
+      left = start-records a.joined a.h a.items.now;
+      out = refl;
+    })
 
-pub next_run-c-requires : goal.next_run-c-requires
-next_run-c-requires c =
-    let at = (goal.at.next_run-c-requires c).In-loop-i in
-    (filling at).stands (omega (arith, less at))
+-- the run is the first of those that are left
+first : (c : In-Some) → drop (enumerate_count c.loop-i.i-iterator) (records_in c.args.h c.args.items.now c.args.joined) ≡ c.in-Some.run' ∷ left (enumerate_source c.next.new.self)
+first c = sym c.loop-i.invariant.left ∙ c.in-Some.ensures.steps.0
 
-pub offset_bounds-out-i : goal.offset_bounds-out-i
-offset_bounds-out-i c =
-    let at = (goal.at.offset_bounds-out-i c).In-loop-i in
-    omega (arith, room at)
+-- so there is room for it
+room : (c : In-Some) → enumerate_count c.loop-i.i-iterator < length c.args.out.now
+room c =
+    let a = c.args in
+    let ok = plan-grants a.h a.items.now a.units.now a.joined (length a.out.now) _ c.in_ok-count.ensures in
+    omega (arith, drop-some (records_in a.h a.items.now a.joined) (enumerate_count c.loop-i.i-iterator) _ _ (first c), ok.1, ok.2)
 
 pub bounds-out-i : goal.bounds-out-i
-bounds-out-i c = omega (arith, room (goal.at.bounds-out-i c).In-loop-i)
+bounds-out-i c = omega (arith, c.in-Some.ensures.steps.1, room (goal.at.bounds-out-i c).In-Some)
 
 pub loop-i-preserved : goal.loop-i-preserved
 loop-i-preserved c =
-    let at = (goal.at.loop-i-preserved c).In-loop-i in
-    let next = filling-next _ _ _ _ _ (filling at) (less at) c.next_run-c.result c.next_run-c.ensures in
-    let more = fill_more _ _ _ _ _ (filling at) (less at) c.next_run-c.result c.next_run-c.ensures c.args.out.now (room at) in
+    let a = c.args in
+    let rs = records_in a.h a.items.now a.joined in
+    let n = enumerate_count c.loop-i.i-iterator in
+    let here = (goal.at.loop-i-preserved c).In-Some in
+    let some = drop-some rs n _ _ (first here) in
+    let step = c.in-Some.ensures.steps in
     record {
-      within = next.within;
-      stands = next.stands;
-      left = next.left;
-      out = rw c.loop-i.invariant.out more;
+      can = c.in-Some.ensures.goes.keeps;
+      finite = tt;
+      within = omega (arith, some, step.2);
+      left = rw step.2 (drop-next rs n _ _ (first here));
+      out = rw (step.1, step.2, c.loop-i.invariant.out) (written-more rs a.out.now n _ _ some (room here) (first here));
     }
 
 pub returns : goal.returns
 returns c =
-    let count = ap (λ (a : Count). a.count) c.plan-a.ensures in
-    let all : c.loop-i.i ≡ c.plan-a.result.count = omega (arith, c.loop-i-test.false, c.loop-i.invariant.within, count) in
-    record { answers = c.plan-a.ensures; leaves = rw (← all) c.loop-i.invariant.out }
+    let a = c.args in
+    let ok = plan-grants a.h a.items.now a.units.now a.joined (length a.out.now) _ c.in_ok-count.ensures in
+    let all = drop-none (records_in a.h a.items.now a.joined) (enumerate_count c.loop-i.i-iterator) (sym c.loop-i.invariant.left ∙ c.in-None.ensures.steps.0.0) in
+    let n : c.in_ok-count.count ≡ enumerate_count c.loop-i.i-iterator = omega (arith, all, c.loop-i.invariant.within, ok.1) in
+    record { answers = c.in_ok-count.ensures; leaves = rw n c.loop-i.invariant.out }

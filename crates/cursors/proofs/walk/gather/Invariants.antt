@@ -8,13 +8,13 @@ use Rattle.rules.specs.Runs.{runs_from}
 use Rattle.cursors.specs.Records.{records_of, runs_by}
 use Rattle.cursors.specs.Cursors.{rest, Stands}
 use Rattle.cursors.proofs.Opens.{Open}
-use Rattle.cursors.proofs.cursor.gather.Given as goal
+use Rattle.cursors.proofs.walk.gather.Given as goal
 
 abbrev pub invariant-loop-s : goal.invariant-loop-s
 invariant-loop-s l =
     Stands l.items l.s
     × ((a : ℕ) (g : Glyph) (gs : List Glyph) → a + length (g ∷ gs) ≡ l.initial.s.passed
-    → Open l.joined l.items l.run a l.s (records_of a (runs_by l.joined (runs_from (g ∷ gs) (env_of l.initial.s.force) (rest l.items l.initial.s)))))
+    → Open l.joined l.items l.from.force a l.s (records_of a (runs_by l.joined (runs_from (g ∷ gs) (env_of l.initial.s.force) (rest l.items l.initial.s)))))
     × (l.s.todo ≤ l.initial.s.todo)
     × (l.initial.s.passed ≤ l.s.passed)
 

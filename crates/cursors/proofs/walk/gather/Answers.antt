@@ -1,4 +1,4 @@
--- `cursors::cursor::gather` meets its contract. Assumes nothing.
+-- `cursors::walk::gather` meets its contract. Assumes nothing.
 use mathlib.Core.Path.{refl, sym, ap, ◌∙◌}
 use native.Mathlib.Omega.{arith}
 use Rattle.attrs.specs.Packed.{env_of}
@@ -6,8 +6,8 @@ use Rattle.cursors.specs.Records.{records_of}
 use Rattle.cursors.specs.Cursors.{rest}
 use Rattle.cursors.proofs.Spots.{Stepped, steps}
 use Rattle.cursors.proofs.Opens.{opened-start, open_out, open-stop, open_turn}
-use Rattle.cursors.proofs.cursor.gather.Goals as goal
-use Rattle.cursors.proofs.cursor.gather.Goals.{In-loop-s}
+use Rattle.cursors.proofs.walk.gather.Goals as goal
+use Rattle.cursors.proofs.walk.gather.Goals.{In-loop-s}
 
 -- the place stands, and there is an item
 stepped : (c : In-loop-s) → Stepped c.args.items.now c.loop-s.s
@@ -29,14 +29,8 @@ loop-s-init c =
       omega arith,
     )
 
-pub overflow_cast-i : goal.overflow_cast-i
-overflow_cast-i c = omega (arith, (stepped (goal.at.overflow_cast-i c).In-loop-s).below)
-
-pub offset_bounds-items-i : goal.offset_bounds-items-i
-offset_bounds-items-i c = omega (arith, (stepped (goal.at.offset_bounds-items-i c).In-loop-s).below)
-
-pub bounds-items-i : goal.bounds-items-i
-bounds-items-i c = (stepped (goal.at.bounds-items-i c).In-loop-s).below
+pub bounds-items-s : goal.bounds-items-s
+bounds-items-s c = (stepped (goal.at.bounds-items-s c).In-loop-s).below
 
 pub returns-then-ends : goal.returns-then-ends
 returns-then-ends c =
@@ -49,11 +43,8 @@ returns-then-ends c =
       on = c.loop-s.invariant.3;
     }
 
-pub past-s-requires : goal.past-s-requires
-past-s-requires c = record { todo_nonzero = c.loop-s-test.true; content_bound = rw c.unpack-it.ensures (stepped (goal.at.past-s-requires c).In-loop-s).sum }
-
-pub loop-s-smaller : goal.loop-s-smaller
-loop-s-smaller c = rw c.past-s.ensures (omega (arith, c.loop-s-test.true))
+pub past-s-requires-clause-content_bound : goal.past-s-requires-clause-content_bound
+past-s-requires-clause-content_bound c = rw c.unpack-it.ensures (stepped (goal.at.past-s-requires-clause-content_bound c).In-loop-s).sum
 
 pub loop-s-preserved : goal.loop-s-preserved
 loop-s-preserved c =

@@ -1,0 +1,51 @@
+-- `cursors::walk::RunsIterator::next` meets its contract. Assumes nothing.
+use Prim.Native.Nat.{◌<◌}
+use native.Mathlib.Omega.{arith}
+use mathlib.Core.Path.{ap}
+use Rattle.layout.specs.Word.{what_of}
+use Rattle.cursors.proofs.Spots.{Stepped, steps, next-none, next-embed, next-text}
+use Rattle.cursors.proofs.walk.RunsIterator.next.Goals as goal
+use Rattle.cursors.proofs.walk.RunsIterator.next.Goals.{Else-from-eq0}
+
+-- the place stands, and there is an item
+some : (c : Else-from-eq0) → 0 < c.skip-from.result.todo
+some c = omega (arith, c.if-from-eq0.false)
+
+stepped : (c : Else-from-eq0) → Stepped c.args.self.now.items.now c.skip-from.result
+stepped c = steps _ _ c.skip-from.ensures.stands (some c)
+
+pub returns-then-from-eq0-clause-steps : goal.returns-then-from-eq0-clause-steps
+returns-then-from-eq0-clause-steps c = next-none _ _ _ _ c.skip-from.ensures c.if-from-eq0.true
+
+pub bounds-self-from : goal.bounds-self-from
+bounds-self-from c = (stepped (goal.at.bounds-self-from c).Else-from-eq0).below
+
+pub past-on-requires-clause-content_bound : goal.past-on-requires-clause-content_bound
+past-on-requires-clause-content_bound c = rw c.unpack-it.ensures (stepped (goal.at.past-on-requires-clause-content_bound c).Else-from-eq0).sum
+
+pub returns-in-Embed-clause-steps : goal.returns-in-Embed-clause-steps
+returns-in-Embed-clause-steps c =
+    let unpacked = c.unpack-it.ensures in
+    let is = rw unpacked at (ap what_of c.in-Embed.is) in
+    rw (c.text_run.ensures, c.past-on.ensures, unpacked) (next-embed _ _ _ _ c.skip-from.ensures (some (goal.at.returns-in-Embed-clause-steps c).Else-from-eq0) _ is)
+
+-- a run takes an item at least
+pub returns-in-Embed-clause-goes : goal.returns-in-Embed-clause-goes
+returns-in-Embed-clause-goes c =
+    let here = (goal.at.returns-in-Embed-clause-goes c).Else-from-eq0 in
+    rw (c.past-on.ensures, c.unpack-it.ensures)
+    (record { on = λ _. ((stepped here).stands, tt, omega (arith, some here)); keeps = (stepped here).stands; rests = λ _. tt })
+
+pub gather-end-requires : goal.gather-end-requires
+gather-end-requires c = rw (c.past-on.ensures, c.unpack-it.ensures) (stepped (goal.at.gather-end-requires c).Else-from-eq0).stands
+
+pub returns : goal.returns
+returns c =
+    let here = (goal.at.returns c).Else-from-eq0 in
+    let unpacked = c.unpack-it.ensures in
+    let ends = c.gather-end.ensures in
+    let gathered = rw (c.past-on.ensures, unpacked) at ends in
+    record {
+      steps = rw c.text_run-2.ensures (next-text _ _ _ _ c.skip-from.ensures (some here) _ unpacked c.in_default.not-Embed _ gathered);
+      goes = record { on = λ _. (ends.stands, tt, omega (arith, some here)); keeps = ends.stands; rests = λ _. tt };
+    }
