@@ -5,11 +5,11 @@ use mathlib.Core.List.{List, [], ◌∷◌, ◌++◌, append_assoc, append-nil}
 use Prim.Native.Nat.{ℕ, zero, suc, ◌+◌, ◌-◌, ◌*◌, ◌/◌, ◌%◌, ◌^◌, ◌≤◌, ◌<◌}
 use native.Mathlib.Omega.{arith}
 use native.Mathlib.Nat.{pow-suc, mod-eq_of_lt, pow-le-pow_right}
-use native.Mathlib.Numerals.{add-one}
 use borrow.Author.Tests.{lt-ltb, le-ltb, ltb-true, ltb-false}
 use lib.Dec.{eqb, ltb}
-use lib.ListN.{length, get_or, take, drop, set, length-append, length-drop, take-append-drop}
-use lib.Seq.{paste, paste-zero, paste-suc, length-paste, take-length, take_at, drop-append-add, drop-drop, length-take-le}
+use lib.ListN.{length, take, drop, length-append, length-drop, take-append-drop}
+use borrow.Rule.Slice.PartMut.{put_mid}
+use lib.Seq.{take_at, drop-append-add, drop-drop, length-take-le}
 use Rattle.io.specs.Digits.{last_digits, hex_digit_ascii, IsDigitCount}
 use lib.Count.{count_trailing_zeros}
 use Rattle.attrs.specs.declared.Attrs.{Attrs}
@@ -52,26 +52,13 @@ module _ {x y z : List ℕ} {n m r : ℕ} {a b : List ℕ} where
         room = q.room;
       }
 
--- ---- the copy of a text
-
-pub copy_start : (out : List ℕ) (n : ℕ) (text : List ℕ) → out ≡ paste out n text 0
-copy_start out n text = paste-zero out n text
-
-pub copy_step : (out now : List ℕ) (n : ℕ) (text : List ℕ) (i : ℕ) → n + length text ≤ length out → i < length text → now ≡ paste out n text i → set now (n + i) (get_or text i 0) ≡ paste out n text (i + 1)
-copy_step out now n text i h l e = rw (e, add-one) (paste-suc out n text i 0 (omega arith) l)
-
-pub copy-long : (out now : List ℕ) (n : ℕ) (text : List ℕ) (i : ℕ) → n + length text ≤ length out → i ≤ length text → now ≡ paste out n text i → length now ≡ length out
-copy-long out now n text i h l e = rw e (length-paste out n text i (omega arith) l)
-
-pub copy_done : (out now : List ℕ) (n : ℕ) (text : List ℕ) (i : ℕ) → n + length text ≤ length out → i ≡ length text → now ≡ paste out n text i → Wrote out now n text (n + i)
+pub put-wrote : (out text now : List ℕ) (n : ℕ) → n + length text ≤ length out → now ≡ text → Wrote out (put_mid n (n + length text - n) out now) n text (n + length text)
 unfolding wrote
-copy_done out now n text i h l e =
-    record {
-      is = e ∙ rw (l, take-length text) (append_assoc (take n out) text _);
-      next = ap (λ (k : ℕ). n + k) l;
-      long = copy-long out now n text i h (omega arith) e;
-      room = omega (arith, copy-long out now n text i h (omega arith) e);
-    }
+put-wrote out text now n h e =
+    let k : n + (n + length text - n) ≡ n + length text = omega arith in
+    let is : put_mid n (n + length text - n) out now ≡ wrote out n text = rw (e, drop-drop (n + length text - n) n out, k) in
+    let long : length (put_mid n (n + length text - n) out now) ≡ length out = ap length is ∙ length-wrote out n text h in
+    record { is = is; next = refl; long = long; room = omega arith }
 
 -- ---- digits
 
