@@ -27,7 +27,11 @@ fn hex_digit(d: u16) -> u8
     requires { d < 16 }
     ensures { result ≡ hex_digit d }
 {
-    if d < 10 { b'0' + d as u8 } else { b'A' - 10 + d as u8 }
+    if d < 10 {
+        b'0' + d as u8
+    } else {
+        b'A' - 10 + d as u8
+    }
 }
 
 // A space and a unit of text.
