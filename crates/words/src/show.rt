@@ -3,7 +3,7 @@ ghost use Rattle.std.specs.Prelude.{◌≡◌, ◌+◌, ◌<◌, ◌≤◌, leng
 ghost use Rattle.words.specs.Show.{Wrote, decimal_text, hex_digit, unit_text, pair_text, attrs_text};
 
 use attrs::Attrs;
-use sets::rest;
+use sets::KeyWalk;
 
 fn put(out: &mut [u8], n: usize, text: &[u8]) -> usize
     requires { n + length text.now ≤ length out.old }
@@ -66,11 +66,8 @@ pub fn put_attrs(out: &mut [u8], n: usize, set: Attrs) -> usize
     ensures { Wrote out.old out.new n (attrs_text set) result }
 {
     let mut at = n;
-    let mut left = set.mask;
-    while left != 0 {
-        let k = u16::trailing_zeros(left);
-        left = rest(left);
-        at = put_pair(out, at, k, set.get(k));
+    for key in KeyWalk::over(set.mask) {
+        at = put_pair(out, at, key, set.get(key));
     }
     at
 }
