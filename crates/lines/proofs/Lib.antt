@@ -1,4 +1,2 @@
 pub mod Gathering
-pub mod Calling
 pub mod Operations
-pub mod Asking

@@ -1,5 +1,6 @@
 -- The operations of a delta's line.
-use Rattle.std.specs.Prelude.{◌≡◌, cond, ◌||◌, List, [], ℕ, zero, suc, ◌+◌, ◌-◌, ◌≤◌, eqb, length}
+use Rattle.std.specs.Prelude.{◌≡◌, Bool, true, cond, not, ◌||◌, List, [], ℕ, zero, suc, ◌+◌, ◌-◌, ◌≤◌, eqb, length, Option, Some, None}
+use Rattle.std.specs.Option.{option_or}
 use Rattle.ops.specs.Ops.{empty_delta, pushed}
 use Rattle.ops.specs.declared.delta.Inserted.TheVariants.{Text, Embed}
 use Rattle.ops.specs.declared.delta.Op.{Op}
@@ -7,16 +8,16 @@ use Rattle.ops.specs.declared.delta.Op.TheVariants.{Insert, Delete, Retain}
 use Rattle.ops.specs.declared.delta.Delta.{Delta}
 use Rattle.ops.specs.declared.delta.Pushed.{Pushed}
 use Rattle.words.specs.Words.{word_at}
-use Rattle.lines.specs.Fields.{read_at, start_at, gather, Gathered, or_else}
+use Rattle.lines.specs.Fields.{read_at, start_at, at_op, gather, Gathered}
 use Rattle.lines.specs.Calls.{number_at, name_of}
 use Rattle.words.specs.declared.words.Word.{Word as Found}
-use Rattle.words.specs.declared.numbers.Number.{Number}
-use Rattle.words.specs.declared.numbers.Number.TheVariants.{Is, Nothing as NoNumber}
 use Rattle.lines.specs.declared.fields.Field.{Field}
 use Rattle.lines.specs.declared.fields.Field.TheVariants.{Line, Op as Semicolon, Word}
 use Rattle.lines.specs.declared.fields.Fields.{Fields}
+use Rattle.lines.specs.declared.fields.End.{End}
+use Rattle.lines.specs.declared.fields.End.TheVariants.{Line as AtLine, Op as AtOp, Wrong}
 use Rattle.lines.specs.declared.deltas.Sort.{Sort}
-use Rattle.lines.specs.declared.deltas.Sort.TheVariants.{Texts, Numbers, Neither}
+use Rattle.lines.specs.declared.deltas.Sort.TheVariants.{Texts, Numbers}
 use Rattle.lines.specs.declared.deltas.AskedDelta.{AskedDelta}
 
 -- What is read so far, and the units as they are then.
@@ -25,9 +26,9 @@ pub record Taken : Type 0 where
   pub units : List ℕ
 
 abbrev pub start_ops : ℕ → AskedDelta
-start_ops at = record { delta = empty_delta; at = at; count = 0; refusal = 0; end = 2 }
+start_ops at = record { delta = empty_delta; at = at; count = 0; refusal = None; end = AtOp }
 
-abbrev pub stopped_ops : AskedDelta → ℕ → ℕ → AskedDelta
+abbrev pub stopped_ops : AskedDelta → ℕ → End → AskedDelta
 stopped_ops d at end = record { delta = d.delta; at = at; count = d.count; refusal = d.refusal; end = end }
 
 -- ---- one operation more
@@ -42,7 +43,7 @@ with_op d op f count =
       delta = longer_of (pushed d.delta (record { op = op; attrs = f.attrs }));
       at = f.at;
       count = count;
-      refusal = or_else f.refusal d.refusal;
+      refusal = option_or f.refusal d.refusal;
       end = f.end;
     }
 
@@ -55,19 +56,19 @@ with_text d g =
     }
 
 abbrev pub text_op : List ℕ → AskedDelta → ℕ → List ℕ → Taken
-text_op s d from units = with_text d (gather (length s + 1) s 1 (start_at from d.count) units)
+text_op s d from units = with_text d (gather (length s + 1) s true (start_at from d.count) units)
 
 -- No attributes behind d.
-abbrev pub op_marks : ℕ → ℕ
-op_marks c = cond (eqb c 100) 0 1
+abbrev pub op_marks : ℕ → Bool
+op_marks c = not (eqb c 100)
 
 -- x is an embed, r retains, d deletes.
 abbrev pub op_of : ℕ → ℕ → Op
 op_of c n = cond (eqb c 120) (Insert (Embed n)) (cond (eqb c 114) (Retain n) (Delete n))
 
-abbrev pub numbered_with : List ℕ → AskedDelta → ℕ → Number → ℕ → AskedDelta
-numbered_with s d c (Is n) next = with_op d (op_of c n) (gather (length s + 1) s (op_marks c) (start_at next 0) []).fields d.count
-numbered_with s d c NoNumber next = stopped_ops d next 3
+abbrev pub numbered_with : List ℕ → AskedDelta → ℕ → Option ℕ → ℕ → AskedDelta
+numbered_with s d c (Some n) next = with_op d (op_of c n) (gather (length s + 1) s (op_marks c) (start_at next 0) []).fields d.count
+numbered_with s d c None next = stopped_ops d next Wrong
 
 abbrev pub numbered_op : List ℕ → AskedDelta → ℕ → ℕ → AskedDelta
 numbered_op s d from c = let n = number_at s from in numbered_with s d c n.number n.next
@@ -78,13 +79,13 @@ pub record NumberedIs (s : List ℕ) (d : AskedDelta) (from c : ℕ) (r : AskedD
   pub count : r.count ≡ d.count
 
 -- i has text; x, r and d have a number.
-unfoldable pub sort_of : ℕ → Sort
-sort_of c = cond (eqb c 105) Texts (cond (eqb c 120 || (eqb c 114 || eqb c 100)) Numbers Neither)
+unfoldable pub sort_of : ℕ → Option Sort
+sort_of c = cond (eqb c 105) (Some Texts) (cond (eqb c 120 || (eqb c 114 || eqb c 100)) (Some Numbers) None)
 
-abbrev pub op_by : Sort → List ℕ → AskedDelta → ℕ → ℕ → List ℕ → Taken
-op_by Texts s d from c units = text_op s d from units
-op_by Numbers s d from c units = record { asked = numbered_op s d from c; units = units }
-op_by Neither s d from c units = record { asked = stopped_ops d from 3; units = units }
+abbrev pub op_by : Option Sort → List ℕ → AskedDelta → ℕ → ℕ → List ℕ → Taken
+op_by (Some Texts) s d from c units = text_op s d from units
+op_by (Some Numbers) s d from c units = record { asked = numbered_op s d from c; units = units }
+op_by None s d from c units = record { asked = stopped_ops d from Wrong; units = units }
 
 abbrev pub op_in : List ℕ → AskedDelta → Found → List ℕ → Taken
 op_in s d w units = op_by (sort_of (name_of s w)) s d w.end (name_of s w) units
@@ -95,14 +96,14 @@ op_in s d w units = op_by (sort_of (name_of s w)) s d w.end (name_of s w) units
 unfoldable pub all_ops : ℕ → List ℕ → AskedDelta → List ℕ → Taken
 all_ops zero s d units = record { asked = d; units = units }
 all_ops (suc n) s d units =
-    cond (eqb d.end 2)
+    cond (at_op d.end)
     (all_ops n s (op_in s d (word_at s d.at) units).asked (op_in s d (word_at s d.at) units).units)
     (record { asked = d; units = units })
 
 -- A letter alone is a delta without operations.
 abbrev pub ops_by : Field → List ℕ → ℕ → List ℕ → Taken
-ops_by Line s from units = record { asked = stopped_ops (start_ops from) from 1; units = units }
-ops_by Semicolon s from units = record { asked = stopped_ops (start_ops from) from 3; units = units }
+ops_by Line s from units = record { asked = stopped_ops (start_ops from) from AtLine; units = units }
+ops_by Semicolon s from units = record { asked = stopped_ops (start_ops from) from Wrong; units = units }
 ops_by (Word p) s from units = all_ops (length s + 1) s (start_ops from) units
 
 -- The operations stand behind the first word of the line.

@@ -1,15 +1,18 @@
 -- The units and attributes of a line, word by word.
-use Rattle.std.specs.Prelude.{◌≡◌, cond, List, ℕ, zero, suc, ◌+◌, ◌-◌, ◌≤◌, eqb, ltb, length, get_or, take, drop, set}
+use Rattle.std.specs.Prelude.{◌≡◌, Bool, true, false, cond, List, ℕ, zero, suc, ◌+◌, ◌-◌, ◌≤◌, eqb, ltb, length, get_or, take, drop, set, Option, Some, None}
+use Rattle.refusal.specs.declared.Refusal.TheVariants.{Key}
 use Rattle.sets.specs.Sets.{empty}
-use Rattle.attrs.specs.Packed.{packed, with_at}
+use Rattle.attrs.specs.Packed.{packed, takes, with_at}
 use Rattle.words.specs.Words.{word_at}
 use Rattle.words.specs.declared.words.Word.{Word as Found}
 use Rattle.words.specs.Numbers.{piece_of}
 use Rattle.words.specs.declared.numbers.Piece.{Piece}
-use Rattle.words.specs.declared.numbers.Piece.TheVariants.{Unit, Pair, Nothing}
+use Rattle.words.specs.declared.numbers.Piece.TheVariants.{Unit, Pair}
 use Rattle.lines.specs.declared.fields.Field.{Field}
 use Rattle.lines.specs.declared.fields.Field.TheVariants.{Line, Op, Word}
 use Rattle.lines.specs.declared.fields.Read.{Read}
+use Rattle.lines.specs.declared.fields.End.{End}
+use Rattle.lines.specs.declared.fields.End.TheVariants.{More, Line as AtLine, Op as AtOp, Wrong}
 use Rattle.lines.specs.declared.fields.Fields.{Fields}
 
 -- The byte of a word of one byte; 0 for any other.
@@ -34,52 +37,69 @@ pub record ReadIs (s : List ℕ) (from : ℕ) (r : Read) : Type 0 where
   pub is : r ≡ read_at s from
   pub high : r.next ≤ length s
 
+-- ---- where reading stands
+
+abbrev pub more : End → Bool
+more More = true
+more AtLine = false
+more AtOp = false
+more Wrong = false
+
+abbrev pub at_line : End → Bool
+at_line More = false
+at_line AtLine = true
+at_line AtOp = false
+at_line Wrong = false
+
+abbrev pub at_op : End → Bool
+at_op More = false
+at_op AtLine = false
+at_op AtOp = true
+at_op Wrong = false
+
 -- ---- what one word adds
 
 abbrev pub start_at : ℕ → ℕ → Fields
-start_at at count = record { at = at; count = count; attrs = packed empty; refusal = 0; end = 0 }
+start_at at count = record { at = at; count = count; attrs = packed empty; refusal = None; end = More }
 
-abbrev pub stopped_at : Fields → ℕ → ℕ → Fields
+abbrev pub stopped_at : Fields → ℕ → End → Fields
 stopped_at f at end = record { at = at; count = f.count; attrs = f.attrs; refusal = f.refusal; end = end }
 
-abbrev pub or_else : ℕ → ℕ → ℕ
-or_else zero other = other
-or_else (suc n) other = suc n
-
 -- An attribute out of range leaves the set as it is, and its refusal stays.
-abbrev pub pair_field : Fields → ℕ → ℕ → ℕ → ℕ → Fields
+abbrev pub pair_field : Fields → ℕ → Bool → ℕ → ℕ → Fields
 pair_field f at marks k v =
-    cond (eqb marks 0) (stopped_at f at 3)
-    (record { at = at; count = f.count; attrs = (with_at f.attrs k v).attrs; refusal = or_else (with_at f.attrs k v).refusal f.refusal; end = 0 })
+    cond marks
+    (record { at = at; count = f.count; attrs = (with_at f.attrs k v).attrs; refusal = cond (takes k v) f.refusal (Some Key); end = More })
+    (stopped_at f at Wrong)
 
 -- A unit where there is room.
 abbrev pub unit_field : Fields → ℕ → ℕ → Fields
 unit_field f at room =
     cond (ltb f.count room)
-    (record { at = at; count = f.count + 1; attrs = f.attrs; refusal = f.refusal; end = 0 })
-    (stopped_at f at 3)
+    (record { at = at; count = f.count + 1; attrs = f.attrs; refusal = f.refusal; end = More })
+    (stopped_at f at Wrong)
 
-abbrev pub piece_field : Fields → ℕ → ℕ → ℕ → Piece → Fields
-piece_field f at marks room (Unit u) = unit_field f at room
-piece_field f at marks room (Pair k v) = pair_field f at marks k v
-piece_field f at marks room Nothing = stopped_at f at 3
+abbrev pub piece_field : Fields → ℕ → Bool → ℕ → Option Piece → Fields
+piece_field f at marks room (Some (Unit u)) = unit_field f at room
+piece_field f at marks room (Some (Pair k v)) = pair_field f at marks k v
+piece_field f at marks room None = stopped_at f at Wrong
 
-abbrev pub with_field : Fields → ℕ → ℕ → ℕ → Field → Fields
-with_field f at marks room Line = stopped_at f at 1
-with_field f at marks room Op = stopped_at f at 2
+abbrev pub with_field : Fields → ℕ → Bool → ℕ → Field → Fields
+with_field f at marks room Line = stopped_at f at AtLine
+with_field f at marks room Op = stopped_at f at AtOp
 with_field f at marks room (Word p) = piece_field f at marks room p
 
-abbrev pub piece_units : List ℕ → ℕ → Piece → List ℕ
-piece_units units n (Unit u) = set units n u
-piece_units units n (Pair k v) = units
-piece_units units n Nothing = units
+abbrev pub piece_units : List ℕ → ℕ → Option Piece → List ℕ
+piece_units units n (Some (Unit u)) = set units n u
+piece_units units n (Some (Pair k v)) = units
+piece_units units n None = units
 
 abbrev pub with_units : List ℕ → ℕ → Field → List ℕ
 with_units units n Line = units
 with_units units n Op = units
 with_units units n (Word p) = piece_units units n p
 
-pub record Takes (f : Fields) (r : Read) (marks : ℕ) (before after : List ℕ) (g : Fields) : Type 0 where
+pub record Takes (f : Fields) (r : Read) (marks : Bool) (before after : List ℕ) (g : Fields) : Type 0 where
   pub is : g ≡ with_field f r.next marks (length before) r.field
   pub units : after ≡ with_units before f.count r.field
   pub at : g.at ≡ r.next
@@ -93,16 +113,16 @@ pub record Gathered : Type 0 where
   pub fields : Fields
   pub units : List ℕ
 
-unfoldable pub gather : ℕ → List ℕ → ℕ → Fields → List ℕ → Gathered
+unfoldable pub gather : ℕ → List ℕ → Bool → Fields → List ℕ → Gathered
 gather zero s marks f units = record { fields = f; units = units }
 gather (suc n) s marks f units =
-    cond (eqb f.end 0)
+    cond (more f.end)
     (gather n s marks
     (with_field f (read_at s f.at).next marks (length units) (read_at s f.at).field)
     (with_units units f.count (read_at s f.at).field))
     (record { fields = f; units = units })
 
-pub record Gathers (s : List ℕ) (f : Fields) (marks : ℕ) (before after : List ℕ) (g : Fields) : Type 0 where
+pub record Gathers (s : List ℕ) (f : Fields) (marks : Bool) (before after : List ℕ) (g : Fields) : Type 0 where
   pub is : record { fields = g; units = after } ≡ gather (length s + 1) s marks f before
   pub at : g.at ≤ length s
   pub low : f.count ≤ g.count

@@ -1,23 +1,22 @@
 // The operations of a delta, from the bytes of its line.
-ghost use Rattle.std.specs.Prelude.{◌≡◌, ◌+◌, ◌<◌, ◌≤◌, length};
-ghost use Rattle.lines.specs.Fields.{or_else};
+ghost use Rattle.std.specs.Prelude.{◌≡◌, ◌<◌, ◌≤◌, ◌+◌, length};
 ghost use Rattle.words.specs.Words.{word_at};
-ghost use Rattle.lines.specs.Deltas.{start_ops, stopped_ops, longer_of, with_op, text_op, op_marks, op_of, NumberedIs, sort_of, op_in, all_ops, delta_in, ReadTo};
+ghost use Rattle.lines.specs.Deltas.{start_ops, stopped_ops, longer_of, with_op, text_op, op_of, NumberedIs, sort_of, op_in, all_ops, delta_in, ReadTo};
 
 use crate::calls::number_at;
-use crate::fields::{Field, Fields, letter, read_field, read_fields};
+use crate::fields::{End, Field, Fields, letter, read_field, read_fields};
 use ops::delta::{Delta, DeltaOp, Inserted, Op, Pushed};
-use words::numbers::Number;
+use refusal::Refusal;
 use words::words::next_word;
 
-// The operations so far, how many units of theirs lie in the lent ones, and refusal 16 where no set takes an attribute. `end` is as in `Fields`.
+// The operations so far, how many units of theirs lie in the lent ones, and what a set refused of its attributes.
 #[derive(Clone, Copy)]
 pub struct AskedDelta {
     pub delta: Delta,
     pub at: usize,
     pub count: usize,
-    pub refusal: u32,
-    pub end: u32,
+    pub refusal: Option<Refusal>,
+    pub end: End,
 }
 
 // What an operation's letter wants behind it.
@@ -25,9 +24,9 @@ pub struct AskedDelta {
 pub enum Sort {
     Texts,
     Numbers,
-    Neither,
 }
 
+// A delta that has no room says so by its count, one more than any call takes.
 fn longer(p: Pushed) -> Delta
     ensures { result ≡ longer_of p }
 {
@@ -39,12 +38,6 @@ fn longer(p: Pushed) -> Delta
     delta
 }
 
-fn or_else(refusal: u32, other: u32) -> u32
-    ensures { result ≡ or_else refusal other }
-{
-    if refusal == 0 { other } else { refusal }
-}
-
 impl AskedDelta {
     fn start(at: usize) -> AskedDelta
         ensures { result ≡ start_ops at }
@@ -53,35 +46,26 @@ impl AskedDelta {
             delta: Delta::empty(),
             at,
             count: 0,
-            refusal: 0,
-            end: 2,
+            refusal: None,
+            end: End::Op,
         }
     }
 
-    fn stopped(self, at: usize, end: u32) -> AskedDelta
+    fn stopped(self, at: usize, end: End) -> AskedDelta
         ensures { result ≡ stopped_ops self at end }
     {
-        let delta = self.delta;
-        AskedDelta {
-            delta,
-            at,
-            count: self.count,
-            refusal: self.refusal,
-            end,
-        }
+        AskedDelta { at, end, ..self }
     }
 
     fn with_op(self, op: Op, f: Fields, count: usize) -> AskedDelta
         ensures { result ≡ with_op self op f count }
     {
-        let old = self.delta;
         let attrs = f.attrs;
-        let pushed = old.push(DeltaOp { op, attrs });
         AskedDelta {
-            delta: longer(pushed),
+            delta: longer(self.delta.push(DeltaOp { op, attrs })),
             at: f.at,
             count,
-            refusal: or_else(f.refusal, self.refusal),
+            refusal: f.refusal.or(self.refusal),
             end: f.end,
         }
     }
@@ -94,7 +78,7 @@ fn text_op(s: &[u8], d: AskedDelta, from: usize, units: &mut [u16]) -> AskedDelt
     ensures { ReadTo s.now units.old units.new result (text_op s.now d from units.old) }
 {
     let start = d.count;
-    let f = read_fields(s, Fields::start(from, start), 1, units);
+    let f = read_fields(s, Fields::start(from, start), true, units);
     let end = f.count;
     let part = Inserted::Text {
         start: start as u32,
@@ -103,57 +87,38 @@ fn text_op(s: &[u8], d: AskedDelta, from: usize, units: &mut [u16]) -> AskedDelt
     d.with_op(Op::Insert(part), f, end)
 }
 
-// Whether attributes may stand behind the number.
-fn marks_of(name: u8) -> u32
-    ensures { result ≡ op_marks name }
-{
-    if name == b'd' { 0 } else { 1 }
-}
-
 fn op_of(name: u8, n: u32) -> Op
     ensures { result ≡ op_of name n }
 {
-    if name == b'x' {
-        let embed = Inserted::Embed(n);
-        return Op::Insert(embed);
+    match name {
+        b'x' => Op::Insert(Inserted::Embed(n)),
+        b'r' => Op::Retain(n),
+        _ => Op::Delete(n),
     }
-    if name == b'r' {
-        return Op::Retain(n);
-    }
-    Op::Delete(n)
 }
 
+// Attributes may stand behind any number but that of a deletion.
 fn numbered_op(s: &[u8], d: AskedDelta, from: usize, name: u8) -> AskedDelta
     requires { from ≤ length s.now }
     ensures { NumberedIs s.now d from name result }
 {
     let a = number_at(s, from);
-    let next = a.next;
-    let number = a.number;
-    let Number::Is(n) = number else {
-        return d.stopped(next, 3);
+    let Some(n) = a.number else {
+        return d.stopped(a.next, End::Wrong);
     };
-    let mut none = [0u16; 0];
-    let f = read_fields(s, Fields::start(next, 0), marks_of(name), &mut none);
+    let f = read_fields(s, Fields::start(a.next, 0), name != b'd', &mut []);
     d.with_op(op_of(name, n), f, d.count)
 }
 
-fn sort_of(name: u8) -> Sort
+#[tactic(auto, unfolding(crate::specs::Deltas::sort_of))]
+fn sort_of(name: u8) -> Option<Sort>
     ensures { result ≡ sort_of name }
 {
-    if name == b'i' {
-        return Sort::Texts;
+    match name {
+        b'i' => Some(Sort::Texts),
+        b'x' | b'r' | b'd' => Some(Sort::Numbers),
+        _ => None,
     }
-    if name == b'x' {
-        return Sort::Numbers;
-    }
-    if name == b'r' {
-        return Sort::Numbers;
-    }
-    if name == b'd' {
-        return Sort::Numbers;
-    }
-    Sort::Neither
 }
 
 fn one_op(s: &[u8], d: AskedDelta, units: &mut [u16]) -> AskedDelta
@@ -162,16 +127,12 @@ fn one_op(s: &[u8], d: AskedDelta, units: &mut [u16]) -> AskedDelta
     requires units_len_bound { length units.old < 4294967296 }
     ensures { ReadTo s.now units.old units.new result (op_in s.now d (word_at s.now d.at) units.old) }
 {
-    let at = d.at;
-    let w = next_word(s, at);
-    let start = w.start;
-    let end = w.end;
-    let name = letter(&s[start..end]);
-    let sort = sort_of(name);
-    match sort {
-        Sort::Texts => text_op(s, d, end, units),
-        Sort::Numbers => numbered_op(s, d, end, name),
-        Sort::Neither => d.stopped(end, 3),
+    let w = next_word(s, d.at);
+    let name = letter(&s[w.start..w.end]);
+    match sort_of(name) {
+        Some(Sort::Texts) => text_op(s, d, w.end, units),
+        Some(Sort::Numbers) => numbered_op(s, d, w.end, name),
+        None => d.stopped(w.end, End::Wrong),
     }
 }
 
@@ -183,13 +144,11 @@ fn all_ops(s: &[u8], from: AskedDelta, units: &mut [u16]) -> AskedDelta
     ensures { ReadTo s.now units.old units.new result (all_ops (length s.now + 1) s.now from units.old) }
 {
     let mut d = from;
-    let mut left = s.len() + 1;
-    while left > 0 {
-        if d.end != 2 {
+    for _ in 0..=s.len() {
+        if d.end != End::Op {
             return d;
         }
         d = one_op(s, d, units);
-        left -= 1;
     }
     d
 }
@@ -200,16 +159,14 @@ fn ops_from(s: &[u8], from: usize, units: &mut [u16]) -> AskedDelta
     ensures { ReadTo s.now units.old units.new result (delta_in s.now from units.old) }
 {
     let d = AskedDelta::start(from);
-    let r = read_field(s, from);
-    let field = r.field;
-    match field {
-        Field::Line => d.stopped(from, 1),
-        Field::Op => d.stopped(from, 3),
+    match read_field(s, from).field {
+        Field::Line => d.stopped(from, End::Line),
+        Field::Op => d.stopped(from, End::Wrong),
         Field::Word(_) => all_ops(s, d, units),
     }
 }
 
-// The operations behind the letter of the line, with the units of their texts at the front of the lent ones. The line is a delta where `end` is 1.
+// The operations behind the letter of the line, with the units of their texts at the front of the lent ones. It is a delta where `end` is `Line`.
 pub fn read_delta(s: &[u8], units: &mut [u16]) -> AskedDelta
     requires { length units.old < 4294967296 }
     ensures { ReadTo s.now units.old units.new result (delta_in s.now (word_at s.now 0).end units.old) }

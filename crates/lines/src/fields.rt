@@ -3,15 +3,16 @@ ghost use Rattle.std.specs.Prelude.{◌≡◌, ◌≤◌, length, set};
 ghost use Rattle.lines.specs.Fields.{letter_of, ReadIs, start_at, stopped_at, pair_field, unit_field, Takes, Gathers};
 
 use attrs::Attrs;
+use refusal::Refusal;
 use words::numbers::{Piece, read_piece};
 use words::words::next_word;
 
-// What stands next: the end of the line, a `;`, or a word.
+// What stands next: the end of the line, a `;`, or a word, which may say nothing.
 #[derive(Clone, Copy)]
 pub enum Field {
     Line,
     Op,
-    Word(Piece),
+    Word(Option<Piece>),
 }
 
 #[derive(Clone, Copy)]
@@ -20,52 +21,50 @@ pub struct Read {
     pub next: usize,
 }
 
-// What was gathered: how many units lie in the lent ones, the set, refusal 16 where a key or a value was out of range.
-// `end` is 0 while there may be more, 1 at the end of the line, 2 behind a `;`, 3 at a word that does not belong here.
+// Where reading stands: there may be more, the line has ended, a `;` was read, or a word that does not belong there.
+#[derive(Clone, Copy, PartialEq, Eq)]
+pub enum End {
+    More,
+    Line,
+    Op,
+    Wrong,
+}
+
+// What was gathered: how many units lie in the lent ones, the set, and what it refused where a key or a value was out of range.
 #[derive(Clone, Copy)]
 pub struct Fields {
     pub at: usize,
     pub count: usize,
     pub attrs: Attrs,
-    pub refusal: u32,
-    pub end: u32,
+    pub refusal: Option<Refusal>,
+    pub end: End,
 }
 
-// The byte of a word of one byte; 0 for any other.
+// The byte of a word of one byte; 0, which is no call's letter, for any other.
 pub fn letter(w: &[u8]) -> u8
     ensures { result ≡ letter_of w.now }
 {
-    if w.len() == 1 {
-        return w[0];
+    match w {
+        [b] => *b,
+        _ => 0,
     }
-    0
 }
 
+#[tactic(auto, unfolding(crate::specs::Fields::field_of))]
 pub fn read_field(s: &[u8], from: usize) -> Read
     requires { from ≤ length s.now }
     ensures { ReadIs s.now from result }
 {
     let w = next_word(s, from);
-    let start = w.start;
-    let end = w.end;
-    if start == end {
-        return Read {
-            field: Field::Line,
-            next: end,
-        };
-    }
-    let part = &s[start..end];
-    if letter(part) == b';' {
-        return Read {
-            field: Field::Op,
-            next: end,
-        };
-    }
-    let piece = read_piece(part);
-    Read {
-        field: Field::Word(piece),
-        next: end,
-    }
+    let part = &s[w.start..w.end];
+    let field = if w.start == w.end {
+        Field::Line
+    } else if letter(part) == b';' {
+        Field::Op
+    } else {
+        Field::Word(read_piece(part))
+    };
+    Read { field, next: w.end }
 }
 
 impl Fields {
@@ -76,48 +75,36 @@ impl Fields {
             at,
             count,
             attrs: Attrs::empty(),
-            refusal: 0,
-            end: 0,
+            refusal: None,
+            end: End::More,
         }
     }
 
-    fn stopped(self, at: usize, end: u32) -> Fields
+    fn stopped(self, at: usize, end: End) -> Fields
         ensures { result ≡ stopped_at self at end }
     {
-        let attrs = self.attrs;
-        Fields {
-            at,
-            count: self.count,
-            attrs,
-            refusal: self.refusal,
-            end,
-        }
+        Fields { at, end, ..self }
     }
 
-    fn with_pair(self, at: usize, marks: u32, key: u32, value: u32) -> Fields
+    fn with_pair(self, at: usize, marks: bool, key: u32, value: u32) -> Fields
         ensures { result ≡ pair_field self at marks key value }
     {
-        if marks == 0 {
-            return self.stopped(at, 3);
+        if !marks {
+            return self.stopped(at, End::Wrong);
         }
-        let set = self.attrs;
-        let took = set.with(key, value);
-        let attrs = took.attrs;
-        if took.refusal != 0 {
-            return Fields {
+        match self.attrs.with(key, value) {
+            Ok(attrs) => Fields {
                 at,
-                count: self.count,
                 attrs,
-                refusal: took.refusal,
-                end: 0,
-            };
-        }
-        Fields {
-            at,
-            count: self.count,
-            attrs,
-            refusal: self.refusal,
-            end: 0,
+                end: End::More,
+                ..self
+            },
+            Err(refusal) => Fields {
+                at,
+                refusal: Some(refusal),
+                end: End::More,
+                ..self
+            },
         }
     }
 
@@ -127,52 +114,44 @@ impl Fields {
     {
         let n = self.count;
         if n >= units.len() {
-            return self.stopped(at, 3);
+            return self.stopped(at, End::Wrong);
         }
         units[n] = u;
-        let attrs = self.attrs;
         Fields {
             at,
             count: n + 1,
-            attrs,
-            refusal: self.refusal,
-            end: 0,
+            end: End::More,
+            ..self
         }
     }
 
-    // With what stands next. Attributes are taken where `marks` is not 0, units while the lent ones have room.
-    fn with_field(self, r: Read, marks: u32, units: &mut [u16]) -> Fields
+    // With what stands next. Attributes are taken where `marks` says so, units while the lent ones have room.
+    fn with_field(self, r: Read, marks: bool, units: &mut [u16]) -> Fields
         ensures { Takes self r marks units.old units.new result }
     {
-        let next = r.next;
-        let field = r.field;
-        match field {
-            Field::Line => self.stopped(next, 1),
-            Field::Op => self.stopped(next, 2),
-            Field::Word(piece) => match piece {
-                Piece::Unit(u) => self.with_unit(next, u, units),
-                Piece::Pair { key, value } => self.with_pair(next, marks, key, value),
-                Piece::Nothing => self.stopped(next, 3),
-            },
+        match r.field {
+            Field::Line => self.stopped(r.next, End::Line),
+            Field::Op => self.stopped(r.next, End::Op),
+            Field::Word(Some(Piece::Unit(u))) => self.with_unit(r.next, u, units),
+            Field::Word(Some(Piece::Pair { key, value })) => self.with_pair(
+                r.next, marks, key, value,
+            ),
+            Field::Word(None) => self.stopped(r.next, End::Wrong),
         }
     }
 }
 
 // A line has fewer words than bytes, so one turn for each byte and one for the end is enough.
-pub fn read_fields(s: &[u8], from: Fields, marks: u32, units: &mut [u16]) -> Fields
+pub fn read_fields(s: &[u8], from: Fields, marks: bool, units: &mut [u16]) -> Fields
     requires { from.at ≤ length s.now }
     ensures { Gathers s.now from marks units.old units.new result }
 {
     let mut f = from;
-    let mut left = s.len() + 1;
-    while left > 0 {
-        if f.end != 0 {
+    for _ in 0..=s.len() {
+        if f.end != End::More {
             return f;
         }
-        let at = f.at;
-        let r = read_field(s, at);
-        left -= 1;
-        f = f.with_field(r, marks, units);
+        f = f.with_field(read_field(s, f.at), marks, units);
     }
     f
 }

@@ -4,7 +4,7 @@ use mathlib.Core.List.{List, ◌++◌}
 use Prim.Native.Nat.{ℕ, suc, ◌+◌, ◌-◌, ◌≤◌, ◌<◌}
 use native.Mathlib.Omega.{arith}
 use native.Mathlib.Numerals.{add-one}
-use borrow.Author.Tests.{lt-ltb, le-ltb, ltb-true}
+use borrow.Author.Tests.{ltb-true}
 use mathlib.Core.Bool.{Bool, true, false, cond}
 use lib.Dec.{ltb}
 use lib.ListN.{length, get_or, take, drop, set, length-drop}
@@ -12,19 +12,20 @@ use lib.Seq.{paste, paste-suc, length-paste, take_at, drop_at, get_or-drop, leng
 use Rattle.words.specs.Words.{leading, Spans}
 use Rattle.words.specs.Input.{waiting, line_of, Moved}
 use Rattle.words.specs.declared.words.Class.TheVariants.{Line as ToNewline}
-use Rattle.words.specs.declared.input.Line.TheVariants.{Whole, Part}
+use Rattle.std.specs.Prelude.{Some, None}
+use Rattle.std.specs.Bool.{then_some}
 
 module _ (w : List ℕ) (e : ℕ) (s : Spans ToNewline w 0 e) where
   at_first : e ≡ leading ToNewline w
   at_first = omega (arith, s.is)
 
-  pub line-whole : e < length w → Whole e ≡ line_of w
+  pub line-told : then_some (ltb e (length w)) e ≡ line_of w
   unfolding line_of
-  line-whole h = rw (← at_first, lt-ltb e (length w) h)
-
-  pub line-part : length w ≤ e → Part ≡ line_of w
-  unfolding line_of
-  line-part h = rw (← at_first, le-ltb e (length w) h)
+  line-told = rw (← at_first) (go (ltb e (length w)))
+    where
+      go : (t : Bool) → then_some t e ≡ cond t (Some e) None
+      go true = refl
+      go false = refl
 
 -- A buffer whose first i bytes are those of s, in the words of the kit's copy.
 pasted : (before s : List ℕ) (i : ℕ) → take i s ++ drop i before ≡ paste before 0 s i
@@ -88,7 +89,7 @@ module _ {before : List ℕ} {start end : ℕ} where
         }
 
 -- The newline of a line that is handed out waits too.
-pub whole-within : (buf : List ℕ) (start end e : ℕ) → start ≤ end → end ≤ length buf → line_of (waiting buf start end) ≡ Whole e → start + e < end
+pub whole-within : (buf : List ℕ) (start end e : ℕ) → start ≤ end → end ≤ length buf → line_of (waiting buf start end) ≡ Some e → start + e < end
 unfolding line_of
 whole-within buf start end e o h p = go (ltb l (length w)) refl p
   where
@@ -98,8 +99,8 @@ whole-within buf start end e o h p = go (ltb l (length w)) refl p
     l : ℕ
     l = leading ToNewline w
 
-    go : (t : Bool) → ltb l (length w) ≡ t → cond t (Whole l) Part ≡ Whole e → start + e < end
+    go : (t : Bool) → ltb l (length w) ≡ t → cond t (Some l) None ≡ Some e → start + e < end
     go true q r =
         let same : l ≡ e = cc in
         omega (arith, ltb-true l (length w) q, length-take-le (end - start) (drop start buf) (omega (arith, length-drop start buf)))
-    go false q r = let z : ◌≡◌ {A = ℕ} 0 1 = cc in absurd (omega arith)
+    go false q r = cc

@@ -1,6 +1,6 @@
 -- Bytes of one class: a step, a stop and the end of the walk over them.
 use mathlib.Core.Path.{◌≡◌, refl}
-use mathlib.Core.Bool.{Bool, true, false, cond, not}
+use mathlib.Core.Bool.{true, false}
 use mathlib.Core.List.{List}
 use Prim.Native.Nat.{ℕ, suc, ◌+◌, ◌≤◌, ◌<◌}
 use native.Mathlib.Omega.{arith}
@@ -10,21 +10,6 @@ use lib.Seq.{drop-cons}
 use Rattle.words.specs.Words.{passes, leading, Spans, WordIs}
 use Rattle.words.specs.declared.words.Class.{Class}
 use Rattle.words.specs.declared.words.Class.TheVariants.{Space, Word}
-
--- A number for a truth, back to the truth.
-pub flag_clear : (b : Bool) (r : ℕ) → r ≡ cond b 1 0 → r ≡ 0 → b ≡ false
-flag_clear true r p q = let z : ◌≡◌ {A = ℕ} 0 1 = cc in absurd (omega arith)
-flag_clear false r p q = refl
-
-pub flag-set : (b : Bool) (r : ℕ) → r ≡ cond b 1 0 → (r ≡ 0 → ⊥) → b ≡ true
-flag-set true r p q = refl
-flag-set false r p q = absurd (q p)
-
-pub flipped : (b : Bool) (r : ℕ) → r ≡ cond b 1 0 → r ≡ 0 → ◌≡◌ {A = ℕ} 1 (cond (not b) 1 0)
-flipped b r p q = rw (flag_clear b r p q)
-
-pub flipped_not : (b : Bool) (r : ℕ) → r ≡ cond b 1 0 → (r ≡ 0 → ⊥) → ◌≡◌ {A = ℕ} 0 (cond (not b) 1 0)
-flipped_not b r p q = rw (flag-set b r p q)
 
 module _ (c : Class) (s : List ℕ) (i : ℕ) where
   pub leading_end : length s ≤ i → leading c (drop i s) ≡ 0
@@ -53,16 +38,16 @@ module _ {c : Class} {s : List ℕ} {from : ℕ} where
     stopped : leading c (drop i s) ≡ 0 → Spans c s from i
     stopped z = record { is = omega arith; low = w.low; high = w.high }
 
-    pub spanning-end : length s ≤ i → Spans c s from i
-    spanning-end h = stopped (leading_end c s i h)
+    pub spanning-end : length s ≤ i → Spans c s from (length s)
+    spanning-end h = let all : i ≡ length s = omega (arith, w.high) in rw (← all) (stopped (leading_end c s i h))
 
-    module _ {r : ℕ} (h : i < length s) (e : r ≡ cond (passes c (get_or s i 0)) 1 0) where
-      pub spanning-stop : r ≡ 0 → Spans c s from i
-      spanning-stop z = stopped (leading-stop c s i h (flag_clear _ r e z))
+    module _ (h : i < length s) where
+      pub spanning-stop : passes c (get_or s i 0) ≡ false → Spans c s from i
+      spanning-stop p = stopped (leading-stop c s i h p)
 
-      pub spanning-step : (r ≡ 0 → ⊥) → Spanning c s from (i + 1)
-      spanning-step n =
-          let step = leading_step c s i h (flag-set (passes c (get_or s i 0)) r e n) in
+      pub spanning-step : passes c (get_or s i 0) ≡ true → Spanning c s from (i + 1)
+      spanning-step p =
+          let step = leading_step c s i h p in
           record { low = omega arith; high = omega arith; rest = omega arith }
 
 pub word-is : (s : List ℕ) (from a e : ℕ) → Spans Space s from a → Spans Word s a e → WordIs s from (record { start = a; end = e })

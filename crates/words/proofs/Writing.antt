@@ -5,18 +5,17 @@ use mathlib.Core.List.{List, [], ◌∷◌, ◌++◌, append_assoc, append-nil}
 use Prim.Native.Nat.{ℕ, zero, suc, ◌+◌, ◌-◌, ◌*◌, ◌/◌, ◌%◌, ◌^◌, ◌≤◌, ◌<◌}
 use native.Mathlib.Omega.{arith}
 use native.Mathlib.Nat.{pow-suc, mod-eq_of_lt, pow-le-pow_right}
-use native.Mathlib.Numerals.{add-one}
 use borrow.Author.Tests.{lt-ltb, le-ltb, ltb-true, ltb-false}
-use lib.Dec.{eqb, ltb}
-use lib.ListN.{length, get_or, take, drop, set, length-append, length-drop, take-append-drop}
-use lib.Seq.{paste, paste-zero, paste-suc, length-paste, take-length, take_at, drop-append-add, drop-drop, length-take-le}
+use lib.Dec.{ltb}
+use lib.ListN.{length, take, drop, length-append, length-drop, take-append-drop}
+use borrow.Rule.Slice.PartMut.{put_mid}
+use lib.Seq.{take_at, drop-append-add, drop-drop, length-take-le}
 use Rattle.io.specs.Digits.{last_digits, hex_digit_ascii, IsDigitCount}
-use lib.Count.{count_trailing_zeros}
 use Rattle.attrs.specs.declared.Attrs.{Attrs}
-use Rattle.sets.specs.Sets.{keys, those}
-use Rattle.sets.specs.Bits.{bit, keys_of, Rest}
+use Rattle.sets.specs.Bits.{keys_of, first_key, Rest}
 use Rattle.attrs.specs.Packed.{env_of, Got}
-use Rattle.sets.proofs.Keys.{keys-next}
+use Rattle.sets.proofs.Keys.{keys_none, keys-rest, keys-le}
+use Rattle.std.specs.Prelude.{Some}
 use Rattle.words.specs.Show.{wrote, Wrote, spelled, decimal_text, pair_text, pairs_text, attrs_text}
 
 -- ---- texts
@@ -52,26 +51,13 @@ module _ {x y z : List ℕ} {n m r : ℕ} {a b : List ℕ} where
         room = q.room;
       }
 
--- ---- the copy of a text
-
-pub copy_start : (out : List ℕ) (n : ℕ) (text : List ℕ) → out ≡ paste out n text 0
-copy_start out n text = paste-zero out n text
-
-pub copy_step : (out now : List ℕ) (n : ℕ) (text : List ℕ) (i : ℕ) → n + length text ≤ length out → i < length text → now ≡ paste out n text i → set now (n + i) (get_or text i 0) ≡ paste out n text (i + 1)
-copy_step out now n text i h l e = rw (e, add-one) (paste-suc out n text i 0 (omega arith) l)
-
-pub copy-long : (out now : List ℕ) (n : ℕ) (text : List ℕ) (i : ℕ) → n + length text ≤ length out → i ≤ length text → now ≡ paste out n text i → length now ≡ length out
-copy-long out now n text i h l e = rw e (length-paste out n text i (omega arith) l)
-
-pub copy_done : (out now : List ℕ) (n : ℕ) (text : List ℕ) (i : ℕ) → n + length text ≤ length out → i ≡ length text → now ≡ paste out n text i → Wrote out now n text (n + i)
+pub put-wrote : (out text now : List ℕ) (n : ℕ) → n + length text ≤ length out → now ≡ text → Wrote out (put_mid n (n + length text - n) out now) n text (n + length text)
 unfolding wrote
-copy_done out now n text i h l e =
-    record {
-      is = e ∙ rw (l, take-length text) (append_assoc (take n out) text _);
-      next = ap (λ (k : ℕ). n + k) l;
-      long = copy-long out now n text i h (omega arith) e;
-      room = omega (arith, copy-long out now n text i h (omega arith) e);
-    }
+put-wrote out text now n h e =
+    let k : n + (n + length text - n) ≡ n + length text = omega arith in
+    let is : put_mid n (n + length text - n) out now ≡ wrote out n text = rw (e, drop-drop (n + length text - n) n out, k) in
+    let long : length (put_mid n (n + length text - n) out now) ≡ length out = ap length is ∙ length-wrote out n text h in
+    record { is = is; next = refl; long = long; room = omega arith }
 
 -- ---- digits
 
@@ -145,22 +131,6 @@ module _ {o p q r s : List ℕ} {n a b c d : ℕ} (k v : ℕ) (h : n + 42 ≤ le
       let four : Wrote o s n (32 ∷ (decimal_text k ++ (61 ∷ []) ++ decimal_text v)) d = then three z (omega arith) in
       rw append_assoc at four
 
-those_short : (p : ℕ → Bool) (l : List ℕ) → length (those p l) ≤ length l
-those_short p [] = omega arith
-those_short p (k ∷ ks) = go (p k) (those_short p ks)
-  where
-    go : (t : Bool) → length (those p ks) ≤ length ks → length (cond t (k ∷ those p ks) (those p ks)) ≤ suc (length ks)
-    go true h = omega arith
-    go false h = omega arith
-
-keys_short : (m : ℕ) → length (keys_of m) ≤ 16
-unfolding keys_of keys
-keys_short m = those_short (λ k. eqb (bit m k) 1) keys
-
-keys_none : keys_of 0 ≡ []
-unfolding keys_of keys bit
-keys_none = refl
-
 module _ (a : Attrs) where
   pairs-none : pairs_text a [] ≡ []
   unfolding pairs_text
@@ -187,32 +157,33 @@ nothing-wrote out n h =
 module _ {set : Attrs} {out : List ℕ} {n : ℕ} where
   pub listing_start : set.mask < 2 ^ 16 → n + 672 ≤ length out → Listing set out out n n set.mask
   listing_start f h =
-      record { done = []; put = nothing-wrote out n (omega arith); rest = refl; fits = f; room = omega (arith, keys_short set.mask) }
+      record { done = []; put = nothing-wrote out n (omega arith); rest = refl; fits = f; room = omega (arith, keys-le set.mask f) }
 
   module _ {now : List ℕ} {at left : ℕ} (w : Listing set out now n at left) where
-    pub listing-room : (left ≡ 0 → ⊥) → at + 42 ≤ length now
-    listing-room z = omega (arith, w.room, w.put.long, ap length (keys-next left w.fits z))
+    module _ {k left' : ℕ} (e : first_key (keys_of left) ≡ Some k) (r : Rest left left') where
+      next : keys_of left ≡ k ∷ keys_of left'
+      next = keys-rest left k left' w.fits e r
 
-    pub listing_step : {now' : List ℕ} {at' v left' : ℕ} → (left ≡ 0 → ⊥) → Rest left left' → Got set (count_trailing_zeros 16 left) v
-        → Wrote now now' at (pair_text (count_trailing_zeros 16 left) v) at' → Listing set out now' n at' left'
-    listing_step {now'} {at'} {v} {left'} z r g p =
-        let k : ℕ = count_trailing_zeros 16 left in
-        let next : keys_of left ≡ k ∷ keys_of left' = keys-next left w.fits z ∙ rw r.is in
-        let count : length (keys_of left) ≡ suc (length (keys_of left')) = ap length next in
-        let short = pair_short k v in
-        record {
-          done = w.done ++ pair_text k v;
-          put = then w.put p (omega (arith, w.put.next));
-          rest =
-              append_assoc w.done (pair_text k v) (pairs_text set (keys_of left'))
-              ∙ ap (λ (l : List ℕ). w.done ++ l)
-              (ap (λ (x : ℕ). pair_text k x ++ pairs_text set (keys_of left')) g.is
-              ∙ sym (pairs-cons set k (keys_of left'))
-              ∙ ap (pairs_text set) (sym next))
-              ∙ w.rest;
-          fits = omega (arith, r.less, w.fits);
-          room = omega (arith, p.next, w.room);
-        }
+      pub listing-room : at + 42 ≤ length now
+      listing-room = omega (arith, w.room, w.put.long, ap length next)
+
+      pub listing_step : {now' : List ℕ} {at' v : ℕ} → Got set k v → Wrote now now' at (pair_text k v) at' → Listing set out now' n at' left'
+      listing_step {now'} {at'} {v} g p =
+          let count : length (keys_of left) ≡ suc (length (keys_of left')) = ap length next in
+          let short = pair_short k v in
+          record {
+            done = w.done ++ pair_text k v;
+            put = then w.put p (omega (arith, w.put.next));
+            rest =
+                append_assoc w.done (pair_text k v) (pairs_text set (keys_of left'))
+                ∙ ap (λ (l : List ℕ). w.done ++ l)
+                (ap (λ (x : ℕ). pair_text k x ++ pairs_text set (keys_of left')) g.is
+                ∙ sym (pairs-cons set k (keys_of left'))
+                ∙ ap (pairs_text set) (sym next))
+                ∙ w.rest;
+            fits = omega (arith, r.less, w.fits);
+            room = omega (arith, p.next, w.room);
+          }
 
     pub listing-done : left ≡ 0 → Wrote out now n (attrs_text set) at
     listing-done z =

@@ -4,25 +4,15 @@ ghost use Rattle.words.specs.Input.{waiting, line_of, Moved};
 
 use crate::words::{Class, span};
 
-// Where the newline stands behind the first line that waits, counted from its start; or no newline is there yet.
-#[derive(Clone, Copy)]
-pub enum Line {
-    Whole(usize),
-    Part,
-}
-
-pub fn first_line(buf: &[u8], start: usize, end: usize) -> Line
+// Where the newline stands behind the first line that waits, counted from its start; none where no newline is there yet.
+pub fn first_line(buf: &[u8], start: usize, end: usize) -> Option<usize>
     requires start_le_end { start ≤ end }
     requires end_in_bounds { end ≤ length buf.now }
     ensures { result ≡ line_of (waiting buf.now start end) }
 {
     let part = &buf[start..end];
     let e = span(part, 0, Class::Line);
-    if e < part.len() {
-        Line::Whole(e)
-    } else {
-        Line::Part
-    }
+    (e < part.len()).then_some(e)
 }
 
 // What waits goes to the front, so that there is room for the next part.
@@ -32,10 +22,8 @@ pub fn to_front(buf: &mut [u8], start: usize, end: usize) -> usize
     ensures { Moved buf.old buf.new start end result }
 {
     let n = end - start;
-    let mut i = 0;
-    while i < n {
+    for i in 0..n {
         buf[i] = buf[start + i];
-        i += 1;
     }
     n
 }

@@ -1,92 +1,57 @@
 // What a word says.
 ghost use Rattle.std.specs.Prelude.{◌≡◌, ◌<◌, ◌≤◌, length};
-ghost use Rattle.words.specs.Numbers.{digit_of, number_of, unit_of, pair_at, piece_of};
+ghost use Rattle.words.specs.Numbers.{number_of, unit_of, pair_at, piece_of};
 
 use crate::words::{Class, span};
 
-#[derive(Clone, Copy)]
-pub enum Number {
-    Is(u32),
-    Nothing,
-}
-
-// A unit of text, an attribute, or neither.
+// A unit of text, or an attribute.
 #[derive(Clone, Copy)]
 pub enum Piece {
     Unit(u16),
     Pair { key: u32, value: u32 },
-    Nothing,
-}
-
-// What a byte counts as a digit; 16 where it is none.
-fn digit(b: u8) -> u64
-    ensures { result ≡ digit_of b }
-{
-    let d = b as u64;
-    match b {
-        b'0'..=b'9' => d - 48,
-        b'A'..=b'F' => d - 55,
-        b'a'..=b'f' => d - 87,
-        _ => 16,
-    }
 }
 
 // A whole word as a number below 2 to the 32nd, its digits below `base`.
-pub fn read_number(w: &[u8], base: u64) -> Number
+pub fn read_number(w: &[u8], base: u32) -> Option<u32>
     requires base_nonzero { 0 < base }
     requires base_bound { base ≤ 16 }
     ensures { result ≡ number_of base w.now }
 {
-    if w.len() == 0 {
-        return Number::Nothing;
+    if w.is_empty() {
+        return None;
     }
-    let mut value: u64 = 0;
-    let mut i = 0;
-    while i < w.len() {
-        let d = digit(w[i]);
+    let mut value: u32 = 0;
+    for b in w {
+        let d = char::from(*b).to_digit(16)?;
         if d >= base {
-            return Number::Nothing;
+            return None;
         }
-        value = value * base + d;
-        if value > 4294967295 {
-            return Number::Nothing;
-        }
-        i += 1;
+        value = value.checked_mul(base)?.checked_add(d)?;
     }
-    Number::Is(value as u32)
+    Some(value)
 }
 
-fn unit(w: &[u8]) -> Piece
+fn unit(w: &[u8]) -> Option<Piece>
     ensures { result ≡ unit_of w.now }
 {
     if w.len() != 4 {
-        return Piece::Nothing;
+        return None;
     }
-    let n = read_number(w, 16);
-    match n {
-        Number::Is(u) => Piece::Unit(u as u16),
-        Number::Nothing => Piece::Nothing,
-    }
+    let u = read_number(w, 16)?;
+    Some(Piece::Unit(u as u16))
 }
 
 // The attribute of a word with a `=` at e.
-fn pair(w: &[u8], e: usize) -> Piece
+fn pair(w: &[u8], e: usize) -> Option<Piece>
     requires { e < length w.now }
     ensures { result ≡ pair_at w.now e }
 {
-    let after = e + 1;
-    let k = read_number(&w[..e], 10);
-    let v = read_number(&w[after..], 10);
-    let Number::Is(key) = k else {
-        return Piece::Nothing;
-    };
-    let Number::Is(value) = v else {
-        return Piece::Nothing;
-    };
-    Piece::Pair { key, value }
+    let key = read_number(&w[..e], 10)?;
+    let value = read_number(&w[e + 1..], 10)?;
+    Some(Piece::Pair { key, value })
 }
 
-pub fn read_piece(w: &[u8]) -> Piece
+pub fn read_piece(w: &[u8]) -> Option<Piece>
     ensures { result ≡ piece_of w.now }
 {
     let e = span(w, 0, Class::Key);

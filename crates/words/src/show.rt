@@ -3,26 +3,23 @@ ghost use Rattle.std.specs.Prelude.{◌≡◌, ◌+◌, ◌<◌, ◌≤◌, leng
 ghost use Rattle.words.specs.Show.{Wrote, decimal_text, hex_digit, unit_text, pair_text, attrs_text};
 
 use attrs::Attrs;
-use sets::rest;
+use sets::KeyWalk;
 
 fn put(out: &mut [u8], n: usize, text: &[u8]) -> usize
     requires { n + length text.now ≤ length out.old }
     ensures { Wrote out.old out.new n text.now result }
 {
-    let mut i = 0;
-    while i < text.len() {
-        out[n + i] = text[i];
-        i += 1;
-    }
-    n + i
+    let end = n + text.len();
+    out[n..end].copy_from_slice(text);
+    end
 }
 
-fn put_decimal(out: &mut [u8], n: usize, x: u64) -> usize
+fn put_decimal(out: &mut [u8], n: usize, x: u32) -> usize
     requires { n + 20 ≤ length out.old }
     ensures { Wrote out.old out.new n (decimal_text x) result }
 {
     let mut digits = [0u8; 20];
-    let k = io::decimal(x, &mut digits);
+    let k = io::decimal(u64::from(x), &mut digits);
     put(out, n, &digits[..k])
 }
 
@@ -30,7 +27,11 @@ fn hex_digit(d: u16) -> u8
     requires { d < 16 }
     ensures { result ≡ hex_digit d }
 {
-    if d < 10 { 48 + d as u8 } else { 55 + d as u8 }
+    if d < 10 {
+        b'0' + d as u8
+    } else {
+        b'A' - 10 + d as u8
+    }
 }
 
 // A space and a unit of text.
@@ -54,9 +55,9 @@ fn put_pair(out: &mut [u8], n: usize, key: u32, value: u32) -> usize
     ensures { Wrote out.old out.new n (pair_text key value) result }
 {
     let before = put(out, n, b" ");
-    let between = put_decimal(out, before, key as u64);
+    let between = put_decimal(out, before, key);
     let after = put(out, between, b"=");
-    put_decimal(out, after, value as u64)
+    put_decimal(out, after, value)
 }
 
 // The attributes of a set, each behind a space, their keys ascending.
@@ -65,11 +66,8 @@ pub fn put_attrs(out: &mut [u8], n: usize, set: Attrs) -> usize
     ensures { Wrote out.old out.new n (attrs_text set) result }
 {
     let mut at = n;
-    let mut left = set.mask;
-    while left != 0 {
-        let k = u16::trailing_zeros(left);
-        left = rest(left);
-        at = put_pair(out, at, k, set.get(k));
+    for key in KeyWalk::over(set.mask) {
+        at = put_pair(out, at, key, set.get(key));
     }
     at
 }

@@ -1,5 +1,5 @@
 // Words: what stands between spaces.
-ghost use Rattle.std.specs.Prelude.{◌≡◌, cond, not, eqb, ◌≤◌, length};
+ghost use Rattle.std.specs.Prelude.{◌≡◌, ◌≤◌, length};
 ghost use Rattle.words.specs.Words.{parts as Words·parts, passes as Words·passes, Spans, WordIs};
 
 // Which bytes a span goes over.
@@ -11,36 +11,20 @@ pub enum Class {
     Line,
 }
 
-// Numbers, not bools, so that a test of one is a fact of numbers.
-fn parts(b: u8) -> u32
-    ensures { result ≡ cond (Words·parts b) 1 0 }
+fn parts(b: u8) -> bool
+    ensures { result ≡ Words·parts b }
 {
-    if b == b' ' {
-        return 1;
-    }
-    if b == b'\t' {
-        return 1;
-    }
-    if b == b'\r' {
-        return 1;
-    }
-    0
+    matches!(b, b' ' | b'\t' | b'\r')
 }
 
-fn differs(b: u8, other: u8) -> u32
-    ensures { result ≡ cond (not (eqb b other)) 1 0 }
-{
-    if b == other { 0 } else { 1 }
-}
-
-fn passes(class: Class, b: u8) -> u32
-    ensures { result ≡ cond (Words·passes class b) 1 0 }
+fn passes(class: Class, b: u8) -> bool
+    ensures { result ≡ Words·passes class b }
 {
     match class {
         Class::Space => parts(b),
-        Class::Word => if parts(b) == 0 { 1 } else { 0 },
-        Class::Key => differs(b, b'='),
-        Class::Line => differs(b, b'\n'),
+        Class::Word => !parts(b),
+        Class::Key => b != b'=',
+        Class::Line => b != b'\n',
     }
 }
 
@@ -49,14 +33,12 @@ pub fn span(s: &[u8], from: usize, class: Class) -> usize
     requires { from ≤ length s.now }
     ensures { Spans class s.now from result }
 {
-    let mut i = from;
-    while i < s.len() {
-        if passes(class, s[i]) == 0 {
+    for i in from..s.len() {
+        if !passes(class, s[i]) {
             return i;
         }
-        i += 1;
     }
-    i
+    s.len()
 }
 
 #[derive(Clone, Copy)]

@@ -1,28 +1,18 @@
+use mathlib.Core.Path.{◌≡◌}
 use borrow.Author.Rules.{rules}
-use native.Mathlib.Omega.{arith}
 use Rattle.words.proofs.Writing.{listing_start, listing_step, listing-done, listing-room}
 use Rattle.words.proofs.show.put_attrs.Goals as goal
 
-pub loop-left-init : goal.loop-left-init
-loop-left-init c = listing_start (search rules) c.requires
-
-pub rest-left-requires : goal.rest-left-requires
-rest-left-requires c = tt
-
-pub get-requires : goal.get-requires
-get-requires c = tt
+pub loop-key-init : goal.loop-key-init
+loop-key-init c =
+    let all : c.into_iter-key-iterator.result.left ≡ c.args.set.mask = cc in
+    rw all (listing_start (search rules) c.requires)
 
 pub put_pair-at-requires : goal.put_pair-at-requires
-put_pair-at-requires c = listing-room c.loop-left.invariant c.loop-left-test.true
+put_pair-at-requires c = let s = c.in-Some.ensures.steps in listing-room c.loop-key.invariant s.0 s.1
 
-pub loop-left-smaller : goal.loop-left-smaller
-loop-left-smaller c = omega (arith, c.rest-left.ensures.less)
-
-pub loop-left-preserved : goal.loop-left-preserved
-loop-left-preserved c = listing_step c.loop-left.invariant c.loop-left-test.true c.rest-left.ensures c.get.ensures c.put_pair-at.ensures
-
-pub shape_of-out : goal.shape_of-out
-shape_of-out c = c.loop-left.invariant.put.long
+pub loop-key-preserved : goal.loop-key-preserved
+loop-key-preserved c = let s = c.in-Some.ensures.steps in listing_step c.loop-key.invariant s.0 s.1 c.get.ensures c.put_pair-at.ensures
 
 pub returns : goal.returns
-returns c = listing-done c.loop-left.invariant c.loop-left-test.false
+returns c = listing-done c.loop-key.invariant (c.in-None.ensures.steps).0

@@ -1,3 +1,4 @@
+use mathlib.Core.Path.{sym, ◌∙◌}
 use native.Mathlib.Omega.{arith}
 use Rattle.words.proofs.Spans.{spanning-start, spanning-end, spanning-stop, spanning-step}
 use Rattle.words.proofs.words.span.Goals as goal
@@ -5,23 +6,11 @@ use Rattle.words.proofs.words.span.Goals as goal
 pub loop-i-init : goal.loop-i-init
 loop-i-init c = spanning-start c.requires
 
-pub bounds-s-i : goal.bounds-s-i
-bounds-s-i c = omega arith
-
-pub passes-requires : goal.passes-requires
-passes-requires c = tt
-
-pub returns-then-passes-eq0 : goal.returns-then-passes-eq0
-returns-then-passes-eq0 c = spanning-stop c.loop-i.invariant c.loop-i-test.true c.passes.ensures c.if-passes-eq0.true
-
-pub overflow_add-i : goal.overflow_add-i
-overflow_add-i c = omega arith
-
-pub loop-i-smaller : goal.loop-i-smaller
-loop-i-smaller c = omega arith
+pub returns-then-not-passes : goal.returns-then-not-passes
+returns-then-not-passes c = spanning-stop c.loop-i.invariant c.loop-i-test.true (sym c.passes.ensures ∙ c.if-not-passes.true)
 
 pub loop-i-preserved : goal.loop-i-preserved
-loop-i-preserved c = spanning-step c.loop-i.invariant c.loop-i-test.true c.passes.ensures c.if-passes-eq0.false
+loop-i-preserved c = spanning-step c.loop-i.invariant c.loop-i-test.true (sym c.passes.ensures ∙ c.if-not-passes.false)
 
 pub returns : goal.returns
 returns c = spanning-end c.loop-i.invariant (omega arith)
