@@ -1,16 +1,15 @@
--- One step along the slots, along two contents, and along a copy: what the loops cite. Assumes nothing.
+-- One step along the slots, the comparison of two contents, and a new entry as writes. Assumes nothing.
 use Prim.Native.Nat.{ℕ, zero, suc, ◌+◌, ◌-◌, ◌*◌, ◌<◌, ◌≤◌}
-use native.Mathlib.Nat.{add-zero, sub-zero, eq-or-lt_of_le}
 use native.Mathlib.Numerals.{add-one}
 use native.Mathlib.Omega.{arith}
-use mathlib.Core.Path.{◌≡◌, refl, ap}
-use mathlib.Core.Logic.{⊎_elim}
-use mathlib.Core.Bool.{Bool, true, false, cond}
-use mathlib.Core.List.{List, [], ◌∷◌}
-use lib.ListN.{length, get_or, drop, set, drop_of_length-le}
-use lib.Seq.{sets, drop-cons}
+use mathlib.Core.Path.{◌≡◌, refl, sym, ap, ◌∙◌}
+use mathlib.Core.Bool.{Bool, true, false, cond, ◌&&◌}
+use Rattle.std.specs.Str.{bytes_eq}
+use mathlib.Core.List.{List, [], ◌∷◌, ◌++◌, append_assoc}
+use lib.ListN.{length, take, set, length-set}
+use lib.Seq.{sets-eq, drop-drop}
+use borrow.Rule.Slice.PartMut.{put_mid}
 use lib.Dec.{eqb}
-use borrow.Author.Tests.{eq-eqb, ne_eqb}
 use Rattle.entries.specs.Entry.{entry_at, entries, same_bytes, seek, among, put_at}
 use Rattle.entries.specs.Order.{fits_at, all_fit, distinct}
 
@@ -22,9 +21,6 @@ module _ (m : List ℕ) (s n : ℕ) where
       let e : n - i ≡ suc (n - (i + 1)) = omega arith in
       let f : s + (i + 1) ≡ suc (s + i) = omega arith in
       rw (e, f)
-
-  pub rest-start : entries m (s + 0) (n - 0) ≡ entries m s n
-  rest-start = rw (add-zero, sub-zero)
 
   pub rest_end : (i : ℕ) → n ≤ i → entries m (s + i) (n - i) ≡ []
   unfolding entries
@@ -50,9 +46,6 @@ module _ (m : List ℕ) (s n : ℕ) where
   unfolding all_fit
   fit-fails i h t = let e : n - i ≡ suc (n - (i + 1)) = omega arith in rw (e, t)
 
-  pub fit-start : all_fit m (s + 0) (n - 0) ≡ all_fit m s n
-  fit-start = rw (add-zero, sub-zero)
-
   pub fit-end : (i : ℕ) → n ≤ i → all_fit m (s + i) (n - i) ≡ true
   unfolding all_fit
   fit-end i h = let e : n - i ≡ 0 = omega arith in rw e
@@ -68,43 +61,35 @@ module _ (m : List ℕ) (s n : ℕ) where
   unfolding distinct
   distinct-step i h t e = rw (rest-step i h, ← next-same i, e)
 
--- ---- two contents from index i on
-module _ (a b : List ℕ) (i : ℕ) where
-  pub same_step : i < length a → i < length b → get_or a i 0 ≡ get_or b i 0 → same_bytes (drop i a) (drop i b) ≡ same_bytes (drop (i + 1) a) (drop (i + 1) b)
-  unfolding same_bytes
-  same_step p q e = rw (add-one, drop-cons a i 0 p, drop-cons b i 0 q, eq-eqb _ _ e)
-
-  pub same_differs : i < length a → i < length b → (get_or a i 0 ≡ get_or b i 0 → ⊥) → same_bytes (drop i a) (drop i b) ≡ false
-  unfolding same_bytes
-  same_differs p q e = rw (drop-cons a i 0 p, drop-cons b i 0 q, ne_eqb _ _ e)
-
-  pub same-short : i < length a → length b ≤ i → same_bytes (drop i a) (drop i b) ≡ false
-  unfolding same_bytes
-  same-short p q = rw (drop-cons a i 0 p, drop_of_length-le b q)
-
-  pub same_end : length a ≤ i → i ≤ length b → same_bytes (drop i a) (drop i b) ≡ eqb i (length b)
-  unfolding same_bytes
-  same_end p q =
-      ⊎_elim
-      (λ (e : i ≡ length b). rw (drop_of_length-le a p, drop_of_length-le b {i = i} (omega arith), eq-eqb _ _ e))
-      (λ (l : i < length b). rw (drop_of_length-le a p, drop-cons b i 0 l, ne_eqb i (length b) (λ e. omega arith)))
-      (eq-or-lt_of_le q)
-
--- ---- the copy of c into t from index at on, with i bytes done
-pub copy_step : (t : List ℕ) (at : ℕ) (c : List ℕ) (i : ℕ) → i < length c
-    → sets t (at + i) (drop i c) ≡ sets (set t (at + i) (get_or c i 0)) (at + (i + 1)) (drop (i + 1) c)
-copy_step t at c i h =
-    let f : at + (i + 1) ≡ suc (at + i) = omega arith in
-    rw (f, add-one, drop-cons c i 0 h)
+-- the comparison of the contents is that of slices
+pub same_is : (a b : List ℕ) → same_bytes a b ≡ bytes_eq a b
+unfolding same_bytes
+same_is [] [] = refl
+same_is [] (y ∷ b) = refl
+same_is (x ∷ a) [] = refl
+same_is (x ∷ a) (y ∷ b) = go (eqb x y) (same_is a b)
+  where
+    go : (t : Bool) → same_bytes a b ≡ bytes_eq a b → cond t (same_bytes a b) false ≡ (t && bytes_eq a b)
+    go true e = e
+    go false e = refl
 
 pub length-entries : (m : List ℕ) (s n : ℕ) → length (entries m s n) ≡ n
 unfolding entries
 length-entries m s zero = refl
 length-entries m s (suc n) = ap suc (length-entries m (suc s) n)
 
--- a new entry as three writes: the length, the kind, the content
-pub put_is : (m : List ℕ) (s k : ℕ) (c : List ℕ) → put_at m s k c ≡ sets (set (set m (s * 34) (length c)) (s * 34 + 1) k) (s * 34 + 2) c
+-- a new entry as three writes: the length, the kind, and the content over as many bytes
+pub put_is : (m : List ℕ) (s k : ℕ) (c : List ℕ) → s * 34 + 2 + length c ≤ length m → (n : ℕ) → n ≡ length c → (new : List ℕ) → new ≡ c
+    → put_mid (s * 34 + 2) n (set (set m (s * 34) (length c)) (s * 34 + 1) k) new ≡ put_at m s k c
 unfolding put_at
-put_is m s k c =
-    let e : s * 34 + 2 ≡ suc (suc (s * 34)) = omega arith in
-    rw (add-one, e)
+put_is m s k c h n e new f =
+    let low : s * 34 + 2 ≡ suc (suc (s * 34)) = omega arith in
+    let head = set (set m (s * 34) (length c)) (s * 34 + 1) k in
+    let room : s * 34 + 2 + length c ≤ length head = simp length-set h in
+    rw (e, f)
+    (
+    sym (append_assoc (take (s * 34 + 2) head) c _)
+    ∙ ap (λ (l : List ℕ). (take (s * 34 + 2) head ++ c) ++ l) (drop-drop (length c) (s * 34 + 2) head)
+    ∙ sym (sets-eq c head (s * 34 + 2) room)
+    ∙ rw (add-one, low) refl
+    )

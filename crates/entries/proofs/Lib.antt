@@ -1,4 +1,4 @@
 pub mod Entries
-pub mod Bits
+pub mod Bytes
 pub mod Seeks
 pub mod Puts

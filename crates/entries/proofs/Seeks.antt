@@ -6,7 +6,8 @@ use mathlib.Core.Bool.{Bool, true, false, cond}
 use mathlib.Core.List.{List, [], ◌∷◌, ◌++◌}
 use lib.ListN.{length, get_or, length-append}
 use lib.Dec.{eqb, ltb}
-use borrow.Author.Tests.{eqb-true, eq-eqb, ltb-false, le-ltb}
+use borrow.Author.Tests.{eqb-true, eq-eqb, ltb-false, lt-ltb, le-ltb}
+use Rattle.std.specs.Prelude.{Option, Some, None, MatchOption, is_some}
 use Rattle.entries.specs.Entry.{same_bytes, seek, among}
 use Rattle.entries.specs.Order.{distinct}
 
@@ -75,6 +76,13 @@ seek_own (x ∷ es) (suc i) d h = go (ltb (seek x es) (length es)) refl d (seek_
             let found : seek x es ≡ i = ap (λ (e : List ℕ). seek e es) same ∙ ih p (omega arith) in
             absurd (omega (arith, ltb-false (seek x es) (length es) f))
         own false g = ap suc (ih p (omega arith))
+
+-- a search that answers a place has found the entry
+pub found_among : (e : List ℕ) (es : List (List ℕ)) (n : ℕ) → length es ≡ n → (r : Option ℕ) → MatchOption r (seek e es ≡ n) (λ i. (i < n) × (seek e es ≡ i))
+    → is_some r ≡ among e es
+unfolding among
+found_among e es n l None h = sym (le-ltb (seek e es) (length es) (omega arith))
+found_among e es n l (Some i) h = sym (lt-ltb (seek e es) (length es) (omega arith))
 
 -- ---- one entry more
 pub seek-more : (e : List ℕ) (es : List (List ℕ)) → seek e es ≡ length es → seek e (es ++ e ∷ []) ≡ length es

@@ -1,3 +1,4 @@
 pub mod Entry
+pub mod Kind
 pub mod Number
 pub mod Order

@@ -1,6 +1,6 @@
-// Entries in lent bytes: slots, the numbers that their bytes make, and when slots are in order. What `table` is built from.
+// Entries in lent bytes: their kinds, the slots that they lie in, and when slots are in order. What `table` is built from.
 #![tactic(auto)]
 
-pub mod integers;
+pub mod kinds;
 pub mod slots;
 pub mod soundness;

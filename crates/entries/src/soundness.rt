@@ -3,101 +3,71 @@ ghost use Rattle.std.specs.Prelude.{◌≡◌, ◌+◌, ◌*◌, ◌<◌, ◌≤
 ghost use Rattle.entries.specs.Entry.{entry_at, entries, among};
 ghost use Rattle.entries.specs.Order.{fits as fits_of, fits_at, all_fit, distinct as distinct_of, shelf_sound};
 
-use crate::slots::{SLOT, content, find, kind_at};
+use crate::kinds::Kind;
+use crate::slots::{BYTES, SLOT, content, find, kind_at};
 
+#[tactic(auto, unfolding(crate::specs::Order::fits))]
 fn fits(kind: u8, n: u8, first: u8) -> bool
     ensures { result ≡ fits_of kind n first }
 {
-    if kind == 0 {
-        if n == 0 {
-            return false;
-        }
-        return n <= 32;
+    match Kind::of(kind) {
+        Some(Kind::Name) => n != 0 && n <= 32,
+        Some(Kind::Bool) => n == 1 && first <= 1,
+        Some(Kind::Int) => n == 8,
+        Some(Kind::String) => n <= 32,
+        None => false,
     }
-    if kind == 1 {
-        if n == 1 {
-            return first <= 1;
-        }
-        return false;
-    }
-    if kind == 2 {
-        return n == 8;
-    }
-    if kind == 3 {
-        return n <= 32;
-    }
-    false
 }
 
-fn slot_fits(table: &[u8], slot: usize) -> bool
-    requires { (slot < 271) × (length table.now ≡ 9214) }
+#[tactic(auto, unfolding(crate::specs::Order::fits_at))]
+fn slot_fits(table: &[u8; BYTES], slot: usize) -> bool
+    requires { slot < 271 }
     ensures { result ≡ fits_at table.now slot }
 {
     let at = slot * SLOT;
     let kind = table[at + 1];
-    if slot < 16 {
-        if kind == 0 {
-            return fits(kind, table[at], table[at + 2]);
-        }
-        return false;
-    }
-    if kind == 0 {
-        return false;
-    }
-    fits(kind, table[at], table[at + 2])
+    let is_name = kind == Kind::Name as u8;
+    is_name == (slot < 16) && fits(kind, table[at], table[at + 2])
 }
 
-fn all_fit(table: &[u8], from: usize, count: usize) -> bool
-    requires { (from + count ≤ 271) × (length table.now ≡ 9214) }
+fn all_fit(table: &[u8; BYTES], from: usize, count: usize) -> bool
+    requires { from + count ≤ 271 }
     ensures { result ≡ all_fit table.now from count }
 {
-    let mut i = 0;
-    while i < count {
+    for i in 0..count {
         if !slot_fits(table, from + i) {
             return false;
         }
-        i += 1;
     }
     true
 }
 
 // Whether the entry of a slot comes again in the slots behind it.
-fn repeats(table: &[u8], slot: usize, behind: usize) -> bool
-    requires { (slot + 1 + behind ≤ 271) × (length table.now ≡ 9214) }
+#[tactic(auto, unfolding(crate::specs::Entry::among, crate::specs::Entry::entry_at))]
+fn repeats(table: &[u8; BYTES], slot: usize, behind: usize) -> bool
+    requires { slot + 1 + behind ≤ 271 }
     ensures { result ≡ among (entry_at table.now slot) (entries table.now (slot + 1) behind) }
 {
-    find(
-        table,
-        slot + 1,
-        behind,
-        kind_at(table, slot),
-        content(table, slot),
-    ) < behind
+    let kind = kind_at(table, slot);
+    find(table, slot + 1, behind, kind, content(table, slot)).is_some()
 }
 
-fn distinct(table: &[u8], from: usize, count: usize) -> bool
-    requires { (from + count ≤ 271) × (length table.now ≡ 9214) }
+fn distinct(table: &[u8; BYTES], from: usize, count: usize) -> bool
+    requires { from + count ≤ 271 }
     ensures { result ≡ distinct_of (entries table.now from count) }
 {
-    let mut i = 0;
-    while i < count {
+    for i in 0..count {
         if repeats(table, from + i, count - i - 1) {
             return false;
         }
-        i += 1;
     }
     true
 }
 
-pub fn shelf_sound(table: &[u8], from: usize, count: usize, most: usize) -> bool
-    requires { (from + most ≤ 271) × (length table.now ≡ 9214) }
+#[tactic(auto, unfolding(crate::specs::Order::shelf_sound))]
+pub fn shelf_sound(table: &[u8; BYTES], from: usize, count: usize, most: usize) -> bool
+    requires { from + most ≤ 271 }
     ensures { result ≡ shelf_sound table.now from count most }
 {
-    if count > most {
-        return false;
-    }
-    if !all_fit(table, from, count) {
-        return false;
-    }
-    distinct(table, from, count)
+    count <= most && all_fit(table, from, count) && distinct(table, from, count)
 }

@@ -1,11 +1,8 @@
-use Prim.Native.Nat.{◌≤◌, ◌-◌, ◌+◌}
+use Prim.Native.Nat.{◌-◌, ◌+◌}
 use mathlib.Core.Path.{◌≡◌}
 use mathlib.Core.List.{◌∷◌}
 use Rattle.entries.specs.Entry.{entries, seek}
 use Rattle.entries.proofs.slots.find.Given as goal
 
 abbrev pub invariant-loop-i : goal.invariant-loop-i
-invariant-loop-i l = (l.i ≤ l.count) × (l.i + seek (l.kind ∷ l.bytes) (entries l.table (l.from + l.i) (l.count - l.i)) ≡ seek (l.kind ∷ l.bytes) (entries l.table l.from l.count))
-
-abbrev pub decreases-loop-i : goal.decreases-loop-i
-decreases-loop-i l = l.count - l.i
+invariant-loop-i l = l.i + seek (l.kind ∷ l.bytes) (entries l.table (l.from + l.i) (l.count - l.i)) ≡ seek (l.kind ∷ l.bytes) (entries l.table l.from l.count)

@@ -1,0 +1,26 @@
+// The kinds of entries. A kind's number is the byte that stands for it in a slot.
+ghost use Rattle.std.specs.Prelude.{◌≡◌};
+ghost use Rattle.entries.specs.Kind.{kind_in};
+
+#[derive(Clone, Copy, PartialEq, Eq)]
+pub enum Kind {
+    Name = 0,
+    Bool = 1,
+    Int = 2,
+    String = 3,
+}
+
+impl Kind {
+    // The kind that a byte stands for, if it does for any.
+    pub fn of(byte: u8) -> Option<Kind>
+        ensures { result ≡ kind_in byte }
+    {
+        match byte {
+            0 => Some(Kind::Name),
+            1 => Some(Kind::Bool),
+            2 => Some(Kind::Int),
+            3 => Some(Kind::String),
+            _ => None,
+        }
+    }
+}
