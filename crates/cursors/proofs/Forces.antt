@@ -6,9 +6,8 @@ use lib.Dec.{eqb}
 use lib.ListN.{length}
 use borrow.Author.Tests.{eqb-true}
 use Rattle.attrs.specs.declared.Attrs.{Attrs}
-use Rattle.attrs.specs.declared.Took.{Took}
 use Rattle.sets.specs.Sets.{Set, Env, none, empty, keys, non_null, as_set, same_sets, same_force, present}
-use Rattle.attrs.specs.Packed.{says, env_of, packed, update_at}
+use Rattle.attrs.specs.Packed.{Took, says, env_of, packed, update_at}
 use Rattle.sets.proofs.Keys.{every, every-at}
 use Rattle.attrs.proofs.Says.{says-packed, packed_ext}
 use Rattle.attrs.proofs.Slots.{env-past}

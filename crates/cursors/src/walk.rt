@@ -179,6 +179,8 @@ fn passed(force: Attrs, it: Item) -> Attrs
     }
     match it.content {
         Content::Text { .. } | Content::Embed(_) => force,
-        Content::Mark { key, value } => force.update_current_attributes(key, value).attrs,
+        Content::Mark { key, value } => force
+            .update_current_attributes(key, value)
+            .unwrap_or(force),
     }
 }
