@@ -17,17 +17,11 @@ pub fn insert(h: Head, items: &mut [u64], p: Place, content: Content, attrs: Att
     requires { Standing h items.old p × (h.items + 33 ≤ SIZE) × InRange content }
     ensures { Carried (insert_with (what_of content) (says attrs)) h items.old p result.head items.new result.place }
 {
-    let force = p.force;
-    let all = attrs.unset_missing(force);
+    let all = attrs.unset_missing(p.force);
     let from = minimize_attr_changes(h, items, p, all);
     let opened = insert_attributes(h, items, from, all);
-    let head = opened.head;
-    let place = opened.place;
-    let remembered = opened.remembered;
-    let new = put(head, items, place, content);
-    let grown = new.head;
-    let behind = new.place;
-    insert_negated_attributes(grown, items, behind, remembered)
+    let new = put(opened.at.head, items, opened.at.place, content);
+    insert_negated_attributes(new.head, items, new.place, opened.remembered)
 }
 
 // Plain text: behind deleted items, with what is in force there. A plain embed is just put.
@@ -35,7 +29,6 @@ pub fn insert_plain(h: Head, items: &mut [u64], p: Place, content: Content) -> A
     requires { Standing h items.old p × (h.items + 1 ≤ SIZE) × InRange content }
     ensures { Carried (plain_text (what_of content)) h items.old p result.head items.new result.place }
 {
-    let none = Attrs::empty();
-    let from = minimize_attr_changes(h, items, p, none);
+    let from = minimize_attr_changes(h, items, p, Attrs::empty());
     put(h, items, from, content)
 }
