@@ -1,12 +1,11 @@
 -- The operations of a delta's line.
 use Rattle.std.specs.Prelude.{◌≡◌, Bool, true, cond, not, ◌||◌, List, [], ℕ, ◌+◌, ◌-◌, ◌≤◌, eqb, length, Option, Some, None}
 use Rattle.std.specs.Option.{option_or}
-use Rattle.ops.specs.Ops.{empty_delta, pushed}
+use Rattle.ops.specs.Ops.{empty_delta, Pushed, pushed}
 use Rattle.ops.specs.declared.delta.Inserted.TheVariants.{Text, Embed}
 use Rattle.ops.specs.declared.delta.Op.{Op}
 use Rattle.ops.specs.declared.delta.Op.TheVariants.{Insert, Delete, Retain}
 use Rattle.ops.specs.declared.delta.Delta.{Delta}
-use Rattle.ops.specs.declared.delta.Pushed.{Pushed}
 use Rattle.words.specs.Words.{word_at}
 use Rattle.lines.specs.Fields.{read_at, start_at, at_op, turns, gather, Gathered}
 use Rattle.lines.specs.Calls.{number_at, name_of}
