@@ -1,14 +1,13 @@
 -- The operations of a delta's line.
-use Rattle.std.specs.Prelude.{◌≡◌, Bool, true, cond, not, ◌||◌, List, [], ℕ, zero, suc, ◌+◌, ◌-◌, ◌≤◌, eqb, length, Option, Some, None}
+use Rattle.std.specs.Prelude.{◌≡◌, Bool, true, cond, not, ◌||◌, List, [], ℕ, ◌+◌, ◌-◌, ◌≤◌, eqb, length, Option, Some, None}
 use Rattle.std.specs.Option.{option_or}
-use Rattle.ops.specs.Ops.{empty_delta, pushed}
+use Rattle.ops.specs.Ops.{empty_delta, Pushed, pushed}
 use Rattle.ops.specs.declared.delta.Inserted.TheVariants.{Text, Embed}
 use Rattle.ops.specs.declared.delta.Op.{Op}
 use Rattle.ops.specs.declared.delta.Op.TheVariants.{Insert, Delete, Retain}
 use Rattle.ops.specs.declared.delta.Delta.{Delta}
-use Rattle.ops.specs.declared.delta.Pushed.{Pushed}
 use Rattle.words.specs.Words.{word_at}
-use Rattle.lines.specs.Fields.{read_at, start_at, at_op, gather, Gathered}
+use Rattle.lines.specs.Fields.{read_at, start_at, at_op, turns, gather, Gathered}
 use Rattle.lines.specs.Calls.{number_at, name_of}
 use Rattle.words.specs.declared.words.Word.{Word as Found}
 use Rattle.lines.specs.declared.fields.Field.{Field}
@@ -93,12 +92,14 @@ op_in s d w units = op_by (sort_of (name_of s w)) s d w.end (name_of s w) units
 -- ---- all operations
 
 -- Behind a `;` there is one more.
-unfoldable pub all_ops : ℕ → List ℕ → AskedDelta → List ℕ → Taken
-all_ops zero s d units = record { asked = d; units = units }
-all_ops (suc n) s d units =
-    cond (at_op d.end)
-    (all_ops n s (op_in s d (word_at s d.at) units).asked (op_in s d (word_at s d.at) units).units)
-    (record { asked = d; units = units })
+abbrev pub goes_on : Taken → Bool
+goes_on t = at_op t.asked.end
+
+abbrev pub next_op : List ℕ → Taken → Taken
+next_op s t = op_in s t.asked (word_at s t.asked.at) t.units
+
+abbrev pub all_ops : ℕ → List ℕ → AskedDelta → List ℕ → Taken
+all_ops n s d units = turns n goes_on (next_op s) (record { asked = d; units = units })
 
 -- A letter alone is a delta without operations.
 abbrev pub ops_by : Field → List ℕ → ℕ → List ℕ → Taken

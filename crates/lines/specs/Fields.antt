@@ -113,14 +113,21 @@ pub record Gathered : Type 0 where
   pub fields : Fields
   pub units : List ℕ
 
-unfoldable pub gather : ℕ → List ℕ → Bool → Fields → List ℕ → Gathered
-gather zero s marks f units = record { fields = f; units = units }
-gather (suc n) s marks f units =
-    cond (more f.end)
-    (gather n s marks
-    (with_field f (read_at s f.at).next marks (length units) (read_at s f.at).field)
-    (with_units units f.count (read_at s f.at).field))
-    (record { fields = f; units = units })
+-- One turn after the other while a test holds, at most so many.
+unfoldable pub turns : {A : Type 0} → ℕ → (A → Bool) → (A → A) → A → A
+turns zero p f a = a
+turns (suc n) p f a = cond (p a) (turns n p f (f a)) a
+
+abbrev pub gathers_on : Gathered → Bool
+gathers_on g = more g.fields.end
+
+abbrev pub one_field : List ℕ → Bool → Gathered → Gathered
+one_field s marks g =
+    let r = read_at s g.fields.at in
+    record { fields = with_field g.fields r.next marks (length g.units) r.field; units = with_units g.units g.fields.count r.field }
+
+abbrev pub gather : ℕ → List ℕ → Bool → Fields → List ℕ → Gathered
+gather n s marks f units = turns n gathers_on (one_field s marks) (record { fields = f; units = units })
 
 pub record Gathers (s : List ℕ) (f : Fields) (marks : Bool) (before after : List ℕ) (g : Fields) : Type 0 where
   pub is : record { fields = g; units = after } ≡ gather (length s + 1) s marks f before

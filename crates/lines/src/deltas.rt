@@ -1,11 +1,12 @@
 // The operations of a delta, from the bytes of its line.
 ghost use Rattle.std.specs.Prelude.{◌≡◌, ◌<◌, ◌≤◌, ◌+◌, length};
 ghost use Rattle.words.specs.Words.{word_at};
+ghost use Rattle.ops.specs.Ops.{pushed};
 ghost use Rattle.lines.specs.Deltas.{start_ops, stopped_ops, longer_of, with_op, text_op, op_of, NumberedIs, sort_of, op_in, all_ops, delta_in, ReadTo};
 
 use crate::calls::number_at;
 use crate::fields::{End, Field, Fields, letter, read_field, read_fields};
-use ops::delta::{Delta, DeltaOp, Inserted, Op, Pushed};
+use ops::delta::{Delta, DeltaOp, Inserted, Op};
 use refusal::Refusal;
 use words::words::next_word;
 
@@ -27,15 +28,16 @@ pub enum Sort {
 }
 
 // A delta that has no room says so by its count, one more than any call takes.
-fn longer(p: Pushed) -> Delta
-    ensures { result ≡ longer_of p }
+fn longer(delta: Delta, op: DeltaOp) -> Delta
+    ensures { result ≡ longer_of (pushed delta op) }
 {
-    let mut delta = p.delta;
-    if p.refusal == 0 {
-        return delta;
+    match delta.push(op) {
+        Ok(longer) => longer,
+        Err(_) => Delta {
+            count: Delta::OPS + 1,
+            ..delta
+        },
     }
-    delta.count = Delta::OPS + 1;
-    delta
 }
 
 impl AskedDelta {
@@ -62,7 +64,7 @@ impl AskedDelta {
     {
         let attrs = f.attrs;
         AskedDelta {
-            delta: longer(self.delta.push(DeltaOp { op, attrs })),
+            delta: longer(self.delta, DeltaOp { op, attrs }),
             at: f.at,
             count,
             refusal: f.refusal.or(self.refusal),

@@ -6,14 +6,11 @@ use Prim.Native.Nat.{ℕ, ◌+◌, ◌*◌, ◌≤◌, ◌<◌}
 use native.Mathlib.Omega.{arith}
 use native.Mathlib.Numerals.{add-one}
 use native.Mathlib.Nat.{le-mul_of_pos_right}
-use borrow.Author.Tests.{ltb-true, lt-ltb, le-ltb, eq-eqb, ne_eqb}
+use borrow.Author.Tests.{ltb-true, lt-ltb, le-ltb, ne_eqb}
 use lib.Dec.{ltb}
 use lib.ListN.{length, get_or, drop, drop_of_length-le}
 use lib.Seq.{drop-cons}
-use Rattle.words.specs.Words.{leading, Spans}
-use Rattle.words.specs.declared.words.Class.TheVariants.{Key}
-use Rattle.words.specs.declared.numbers.Piece.{Piece}
-use Rattle.words.specs.Numbers.{digit_of, all_digits, value_from, number_from, number_of, unit_of, pair_at, piece_of}
+use Rattle.words.specs.Numbers.{digit_of, all_digits, value_from, number_from, number_of}
 use Rattle.std.specs.Prelude.{Option, Some, None}
 use Rattle.std.specs.Char.{digit_value}
 use Rattle.std.proofs.lemmas.Bool.Decides.{nat_tests}
@@ -57,12 +54,6 @@ pub record Reading (base : ℕ) (w : List ℕ) (value i : ℕ) : Type 0 where
   pub small : value ≤ 4294967295
   pub within : i ≤ length w
   pub rest : number_from base value (drop i w) ≡ number_from base 0 w
-
-pub reading-none : (base : ℕ) (w : List ℕ) → length w ≡ 0 → None ≡ number_of base w
-reading-none base w e = simp (eq-eqb (length w) 0 e)
-
-pub reading-start : (base : ℕ) (w : List ℕ) → (length w ≡ 0 → ⊥) → Reading base w 0 0
-reading-start base w n = record { some = n; small = omega arith; within = omega arith; rest = refl }
 
 module _ {base : ℕ} {w : List ℕ} {value i : ℕ} (r : Reading base w value i) where
   answered : (n : Option ℕ) → n ≡ number_from base value (drop i w) → n ≡ number_of base w
@@ -133,15 +124,3 @@ unit-small (a ∷ []) v l e = absurd (omega arith)
 unit-small (a ∷ b ∷ []) v l e = absurd (omega arith)
 unit-small (a ∷ b ∷ c ∷ []) v l e = absurd (omega arith)
 unit-small (a ∷ b ∷ c ∷ d ∷ f ∷ g) v l e = absurd (omega arith)
-
-module _ (w : List ℕ) (e : ℕ) (r : Option Piece) (s : Spans Key w 0 e) where
-  at_first : e ≡ leading Key w
-  at_first = omega (arith, s.is)
-
-  pub piece-pair : e < length w → r ≡ pair_at w e → r ≡ piece_of w
-  unfolding piece_of
-  piece-pair h p = rw (← at_first, lt-ltb e (length w) h) p
-
-  pub piece-unit : length w ≤ e → r ≡ unit_of w → r ≡ piece_of w
-  unfolding piece_of
-  piece-unit h p = rw (← at_first, le-ltb e (length w) h) p

@@ -8,24 +8,11 @@ use borrow.Author.Tests.{ltb-true}
 use mathlib.Core.Bool.{Bool, true, false, cond}
 use lib.Dec.{ltb}
 use lib.ListN.{length, get_or, take, drop, set, length-drop}
-use lib.Seq.{paste, paste-suc, length-paste, take_at, drop_at, get_or-drop, length-take-le}
-use Rattle.words.specs.Words.{leading, Spans}
-use Rattle.words.specs.Input.{waiting, line_of, Moved}
+use lib.Seq.{paste, paste-suc, length-paste, drop_at, get_or-drop, length-take-le}
+use Rattle.words.specs.Words.{leading}
+use Rattle.words.specs.Input.{waiting, line_of}
 use Rattle.words.specs.declared.words.Class.TheVariants.{Line as ToNewline}
 use Rattle.std.specs.Prelude.{Some, None}
-use Rattle.std.specs.Bool.{then_some}
-
-module _ (w : List ℕ) (e : ℕ) (s : Spans ToNewline w 0 e) where
-  at_first : e ≡ leading ToNewline w
-  at_first = omega (arith, s.is)
-
-  pub line-told : then_some (ltb e (length w)) e ≡ line_of w
-  unfolding line_of
-  line-told = rw (← at_first) (go (ltb e (length w)))
-    where
-      go : (t : Bool) → then_some t e ≡ cond t (Some e) None
-      go true = refl
-      go false = refl
 
 -- A buffer whose first i bytes are those of s, in the words of the kit's copy.
 pasted : (before s : List ℕ) (i : ℕ) → take i s ++ drop i before ≡ paste before 0 s i
@@ -39,9 +26,6 @@ pub record Moving (before now : List ℕ) (start end i : ℕ) : Type 0 where
   pub is : now ≡ take i (drop start before) ++ drop i before
 
 module _ {before : List ℕ} {start end : ℕ} where
-  pub moving-start : start ≤ end → end ≤ length before → Moving before before start end 0
-  moving-start o h = record { within = omega arith; room = h; order = o; is = refl }
-
   module _ {now : List ℕ} {i : ℕ} (w : Moving before now start end i) where
     there : length (drop start before) ≡ length before - start
     there = length-drop start before
@@ -76,16 +60,6 @@ module _ {before : List ℕ} {start end : ℕ} where
               ∙ ap (λ (k : ℕ). set (paste before 0 (drop start before) i) k (get_or (drop start before) i 0)) z
               ∙ t
               ∙ rw add-one (sym (pasted before (drop start before) (suc i)));
-        }
-
-    pub moving-done : end - start ≤ i → Moved before now start end (end - start)
-    moving-done l =
-        let all : i ≡ end - start = omega (arith, w.within) in
-        record {
-          is = w.is ∙ ap (λ (k : ℕ). take k (drop start before) ++ drop k before) all;
-          kept = ap (λ (k : ℕ). take k now) (sym all) ∙ rw w.is (take_at (take i (drop start before)) (drop i before) i front) ∙ ap (λ (k : ℕ). take k (drop start before)) all;
-          count = refl;
-          long = moving-long;
         }
 
 -- The newline of a line that is handed out waits too.

@@ -1,5 +1,5 @@
 -- Bytes of one class: a step, a stop and the end of the walk over them.
-use mathlib.Core.Path.{◌≡◌, refl}
+use mathlib.Core.Path.{◌≡◌}
 use mathlib.Core.Bool.{true, false}
 use mathlib.Core.List.{List}
 use Prim.Native.Nat.{ℕ, suc, ◌+◌, ◌≤◌, ◌<◌}
@@ -7,9 +7,8 @@ use native.Mathlib.Omega.{arith}
 use native.Mathlib.Numerals.{add-one}
 use lib.ListN.{length, get_or, drop, drop_of_length-le}
 use lib.Seq.{drop-cons}
-use Rattle.words.specs.Words.{passes, leading, Spans, WordIs}
+use Rattle.words.specs.Words.{passes, leading, Spans}
 use Rattle.words.specs.declared.words.Class.{Class}
-use Rattle.words.specs.declared.words.Class.TheVariants.{Space, Word}
 
 module _ (c : Class) (s : List ℕ) (i : ℕ) where
   pub leading_end : length s ≤ i → leading c (drop i s) ≡ 0
@@ -31,9 +30,6 @@ pub record Spanning (c : Class) (s : List ℕ) (from i : ℕ) : Type 0 where
   pub rest : i + leading c (drop i s) ≡ from + leading c (drop from s)
 
 module _ {c : Class} {s : List ℕ} {from : ℕ} where
-  pub spanning-start : from ≤ length s → Spanning c s from from
-  spanning-start h = record { low = omega arith; high = h; rest = refl }
-
   module _ {i : ℕ} (w : Spanning c s from i) where
     stopped : leading c (drop i s) ≡ 0 → Spans c s from i
     stopped z = record { is = omega arith; low = w.low; high = w.high }
@@ -49,12 +45,3 @@ module _ {c : Class} {s : List ℕ} {from : ℕ} where
       spanning-step p =
           let step = leading_step c s i h p in
           record { low = omega arith; high = omega arith; rest = omega arith }
-
-pub word-is : (s : List ℕ) (from a e : ℕ) → Spans Space s from a → Spans Word s a e → WordIs s from (record { start = a; end = e })
-word-is s from a e p q =
-    record {
-      is = rw (q.is, p.is);
-      low = p.low;
-      order = q.low;
-      high = q.high;
-    }

@@ -5,6 +5,7 @@ ghost use Rattle.words.specs.Input.{waiting, line_of, Moved};
 use crate::words::{Class, span};
 
 // Where the newline stands behind the first line that waits, counted from its start; none where no newline is there yet.
+#[tactic(auto, unfolding(crate::specs::Input::line_of))]
 pub fn first_line(buf: &[u8], start: usize, end: usize) -> Option<usize>
     requires start_le_end { start ≤ end }
     requires end_in_bounds { end ≤ length buf.now }

@@ -51,6 +51,7 @@ fn pair(w: &[u8], e: usize) -> Option<Piece>
     Some(Piece::Pair { key, value })
 }
 
+#[tactic(auto, unfolding(crate::specs::Numbers::piece_of))]
 pub fn read_piece(w: &[u8]) -> Option<Piece>
     ensures { result ≡ piece_of w.now }
 {

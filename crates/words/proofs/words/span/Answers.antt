@@ -1,10 +1,7 @@
 use mathlib.Core.Path.{sym, ◌∙◌}
 use native.Mathlib.Omega.{arith}
-use Rattle.words.proofs.Spans.{spanning-start, spanning-end, spanning-stop, spanning-step}
+use Rattle.words.proofs.Spans.{spanning-end, spanning-stop, spanning-step}
 use Rattle.words.proofs.words.span.Goals as goal
-
-pub loop-i-init : goal.loop-i-init
-loop-i-init c = spanning-start c.requires
 
 pub returns-then-not-passes : goal.returns-then-not-passes
 returns-then-not-passes c = spanning-stop c.loop-i.invariant c.loop-i-test.true (sym c.passes.ensures ∙ c.if-not-passes.true)
