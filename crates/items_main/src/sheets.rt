@@ -1,6 +1,8 @@
 // Small sheets, and what is written of them.
 use layout::head::Head;
-use layout::word::{Content, Item};
+use layout::word::{Content, Item, pack};
+use soundness::sound;
+use std::io;
 
 // A sheet of three items, by their words, over four units.
 #[derive(Clone, Copy)]
@@ -12,28 +14,26 @@ pub struct Small {
     pub units: [u16; 4],
 }
 
-pub fn text(next: u32, start: u32, len: u32) -> u64 {
-    layout::word::pack(Item {
+fn live(next: u32, content: Content) -> u64 {
+    pack(Item {
         next,
-        content: Content::Text { start, len },
+        content,
         dead: false,
         added: false,
         gone: false,
     })
+}
+
+pub fn text(next: u32, start: u32, len: u32) -> u64 {
+    live(next, Content::Text { start, len })
 }
 
 pub fn mark(next: u32, key: u32, value: u32) -> u64 {
-    layout::word::pack(Item {
-        next,
-        content: Content::Mark { key, value },
-        dead: false,
-        added: false,
-        gone: false,
-    })
+    live(next, Content::Mark { key, value })
 }
 
 pub fn embed(next: u32, flags: u32) -> u64 {
-    layout::word::pack(Item {
+    pack(Item {
         next,
         content: Content::Embed(0xFFFF_FFFF),
         dead: flags / 4 % 2 == 1,
@@ -61,48 +61,22 @@ pub fn plain() -> Small {
     }
 }
 
-pub fn line(label: &[u8], answer: bool) {
-    io::write_all(1, label);
-    if answer {
-        io::write_all(1, b" 1\n");
-    } else {
-        io::write_all(1, b" 0\n");
-    }
-}
-
-// Five digits and a space.
-pub fn number(n: u32) {
-    let digits = [
-        (n / 10000 % 10 + 48) as u8,
-        (n / 1000 % 10 + 48) as u8,
-        (n / 100 % 10 + 48) as u8,
-        (n / 10 % 10 + 48) as u8,
-        (n % 10 + 48) as u8,
-        32,
-    ];
-    io::write_all(1, &digits);
-}
-
 pub fn words_of(s: Small) -> [u64; 2048] {
     let mut items = [0u64; 2048];
-    items[0] = s.a;
-    items[1] = s.b;
-    items[2] = s.c;
+    items[..3].copy_from_slice(&[s.a, s.b, s.c]);
     items
 }
 
 pub fn units_of(s: Small) -> [u16; 16384] {
     let mut units = [0u16; 16384];
-    let u = s.units;
-    units[0] = u[0];
-    units[1] = u[1];
-    units[2] = u[2];
-    units[3] = u[3];
+    units[..4].copy_from_slice(&s.units);
     units
 }
 
-pub fn tried(label: &[u8], s: Small) {
-    let items = words_of(s);
-    let units = units_of(s);
-    line(label, soundness::sound(s.head, &items, &units));
+pub fn line(rt: &impl Print, label: &str, answer: bool) -> io::Result<()> {
+    println!(rt; "{label} {}", u8::from(answer))
+}
+
+pub fn tried(rt: &impl Print, label: &str, s: Small) -> io::Result<()> {
+    line(rt, label, sound(s.head, &words_of(s), &units_of(s)))
 }
