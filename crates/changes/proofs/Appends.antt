@@ -4,7 +4,7 @@ use native.Mathlib.Omega.{arith}
 use mathlib.Core.Path.{◌≡◌, refl, sym, ap, ◌∙◌}
 use mathlib.Core.List.{List, [], ◌++◌, append_assoc}
 use lib.ListN.{length, take, drop, length-append}
-use lib.Seq.{length-take-le, length_front, take_at, take_all, drop-append-add, drop-drop, paste, paste-zero}
+use lib.Seq.{length-take-le, length_front, take_at, drop-append-add, drop-drop, paste-zero}
 use Rattle.changes.specs.Appends.{appended}
 
 module _ (u xs : List ℕ) (a n : ℕ) (low : a ≤ length u) (long : length xs ≡ n) where
@@ -13,10 +13,6 @@ module _ (u xs : List ℕ) (a n : ℕ) (low : a ≤ length u) (long : length xs 
 
   appended-is : (take a u ++ xs) ++ drop (a + n) u ≡ appended a xs u
   appended-is = ap (λ (k : ℕ). (take a u ++ xs) ++ drop k u) (sym front_long)
-
-  -- all of them copied, one after the other
-  pub pasted-all : paste u a xs n ≡ appended a xs u
-  pasted-all = ap (λ (x : List ℕ). (take a u ++ x) ++ drop (a + n) u) (take_all n xs (omega (arith, long))) ∙ appended-is
 
   pub appended-length : a + n ≤ length u → length (appended a xs u) ≡ length u
   appended-length room =

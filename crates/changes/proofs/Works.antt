@@ -1,14 +1,14 @@
 -- A working copy: a sound sheet loaded, an edit by index carried out there, and its words copied back. Assumes nothing.
 use Prim.Native.Nat.{ℕ, ◌<◌, ◌≤◌}
 use native.Mathlib.Omega.{arith}
-use mathlib.Core.Path.{◌≡◌, sym, ap, ap₂, subst, subst⁻¹, ◌∙◌}
+use mathlib.Core.Path.{◌≡◌, sym, ap, ap₂, subst, ◌∙◌}
 use mathlib.Core.Bool.{true}
 use mathlib.Core.List.{List}
 use lib.Dec.{ltb}
 use lib.ListN.{length, get_or}
 use borrow.Author.Tests.{le-leb, lt-leb, lt-ltb}
 use Rattle.units.proofs.Halves.{both}
-use Rattle.sets.specs.Sets.{Set, none}
+use Rattle.sets.specs.Sets.{none}
 use Rattle.rules.specs.Sheet.{Item}
 use Rattle.rules.specs.Places.{At, Move, whole, and_then}
 use Rattle.rules.specs.Edits.{by_index}
@@ -40,10 +40,6 @@ module _ (h : Head) (m to : List ℕ) (ok : Loadable h m) (long : length to ≡ 
   load_is k e = rw e (load-arena h m to long (omega (arith, ok.items)) loaded, loaded.list)
 
 -- ---- carried out by index
--- the rule of a change that is known
-pub changed : {c d : Change} (a : Set) {h : Head} {m : List ℕ} {p : Place} {h₁ : Head} {m₁ : List ℕ} {p₁ : Place} → c ≡ d → Carried (move_of d a) h m p h₁ m₁ p₁ → Carried (move_of c a) h m p h₁ m₁ p₁
-changed a {h} {m} {p} {h₁} {m₁} {p₁} e k = subst⁻¹ (λ (x : Change). Carried (move_of x a) h m p h₁ m₁ p₁) e k
-
 pub worked : (i : ℕ) (f : Move) {h : Head} {m : List ℕ} {h₁ : Head} {m₁ : List ℕ} {p₁ : Place} → Arena h m → Carried (in_turn (placing i) f) h m (start_of h) h₁ m₁ p₁
     → Worked (by_index i f (list_of h m) h.items) h₁ m₁
 worked i f {h} {m} {h₁} {m₁} {p₁} a c =
@@ -90,6 +86,6 @@ module _ (p : At) (h : Head) (m : List ℕ) (h₁ : Head) (m₁ : List ℕ) (w :
       (ap₂ (λ (x : Head) (y : List ℕ). record { refusal = 0; head = x; words = y }) (eg ∙ ap₂ (λ (a b : ℕ). grown_head h a b used) (sym worked-first) w.next) (ek ∙ worked-stored (omega arith)))
 
 -- the same by a change that is known
-pub granted_by : {c d : Change} (i : ℕ) (a : Set) (used : ℕ) (h : Head) (m : List ℕ) (x : Left) → x ≡ granted (by_index i (move_of c a) (list_of h m) h.items) used h m → c ≡ d
-    → x ≡ granted (by_index i (move_of d a) (list_of h m) h.items) used h m
-granted_by i a used h m x g e = g ∙ ap (λ (y : Change). granted (by_index i (move_of y a) (list_of h m) h.items) used h m) e
+pub granted_by : {c d : Change} (i : ℕ) (used : ℕ) (h : Head) (m : List ℕ) (x : Left) → x ≡ granted (by_index i (move_of c) (list_of h m) h.items) used h m → c ≡ d
+    → x ≡ granted (by_index i (move_of d) (list_of h m) h.items) used h m
+granted_by i used h m x g e = g ∙ ap (λ (y : Change). granted (by_index i (move_of y) (list_of h m) h.items) used h m) e

@@ -1,16 +1,14 @@
 -- An edit in a working copy, and back.
-use Rattle.std.specs.Prelude.{ℕ, ◌<◌, ◌≤◌, ◌≡◌, true, cond, List, leb, length, get_or}
+use Rattle.std.specs.Prelude.{ℕ, ◌<◌, ◌≤◌, ◌≡◌, true, cond, List, leb, length, get_or, Result}
+use Rattle.std.specs.Result.{result_unwrap_or}
+use Rattle.refusal.specs.declared.Refusal.{Refusal}
+use Rattle.refusal.specs.Numbers.{refusal_in}
 use Rattle.rules.specs.Places.{At, whole}
 use Rattle.layout.specs.declared.head.Head.{Head}
-use Rattle.items.specs.declared.Answer.{Answer}
 use Rattle.layout.specs.Chain.{walks, head_or}
 use Rattle.layout.specs.Heads.{grown_head}
-use Rattle.layout.specs.Memory.{stored, list_of, Carried}
+use Rattle.layout.specs.Memory.{stored, list_of}
 use Rattle.arena.specs.Places.{Neat, Arena}
-
--- What a call leaves, as `carry` says it: what it answers, and both buffers.
-abbrev pub leaving : Answer → List ℕ → List ℕ → Carried
-leaving r m u = record { refusal = r.refusal; head = r.head; words = m; units = u }
 
 -- What an edit leaves of the head and of the items' words.
 pub record Left : Type 0 where
@@ -18,8 +16,8 @@ pub record Left : Type 0 where
   pub head : Head
   pub words : List ℕ
 
-abbrev pub left : Answer → List ℕ → Left
-left r m = record { refusal = r.refusal; head = r.head; words = m }
+abbrev pub left : Head → Result Head Refusal → List ℕ → Left
+left h r m = record { refusal = refusal_in r; head = result_unwrap_or r h; words = m }
 
 -- The list that the rules give, stored where it keeps the limit, with so many units in use; else 4, and all as it was.
 unfoldable pub granted : At → ℕ → Head → List ℕ → Left

@@ -6,10 +6,6 @@ pub fn append(units: &mut [u16], at: u32, chunk: &[u16])
     requires { at + length chunk.now ≤ length units.old }
     ensures { units.new ≡ appended at chunk.now units.old }
 {
-    let from = at as usize;
-    let mut i = 0;
-    while i < chunk.len() {
-        units[from + i] = chunk[i];
-        i += 1;
-    }
+    let at = at as usize;
+    units[at..at + chunk.len()].copy_from_slice(chunk);
 }
