@@ -7,6 +7,10 @@ use mathlib.Core.List.{List}
 use lib.Dec.{eqb, leb}
 use lib.ListN.{length, take}
 use borrow.Author.Tests.{eq-eqb, ne_eqb, le-leb, lt-leb}
+use Rattle.std.specs.Prelude.{Err}
+use Rattle.refusal.specs.declared.Refusal.{Refusal}
+use Rattle.refusal.specs.Numbers.{number_of}
+use Rattle.refusal.proofs.Numbered.{number-some}
 use Rattle.rules.specs.Places.{whole, stay}
 use Rattle.rules.specs.Calls.{Sheet, Outcome, refuse, roomy, Call, call}
 use Rattle.rules.specs.Rulings.{Ruling, as_is, ruling, ruled, decided}
@@ -14,7 +18,7 @@ use Rattle.laws.proofs.Rulings.{call-is}
 use Rattle.layout.specs.declared.head.Head.{Head}
 use Rattle.layout.specs.Chain.{head_or}
 use Rattle.layout.specs.Heads.{grown_head}
-use Rattle.layout.specs.Memory.{list_of, model_of, sound_of, stored, stored_units, Carried, kept_all, stored_all, landed, carry_by, carry}
+use Rattle.layout.specs.Memory.{list_of, model_of, sound_of, stored, stored_units, Carried, leaving, kept_all, stored_all, landed, carry_by, carry}
 use Rattle.layout.proofs.Soundness.{sound-parts}
 use Rattle.items.proofs.Carries.{carry-broken}
 use Rattle.layout.proofs.Models.{used-length, model-sound, sound-head, sound-stored, sound-units}
@@ -39,6 +43,10 @@ module _ (c : Call) (h : Head) (m u : List ℕ) (ok : sound_of h m u ≡ true) (
       ∙ ap (λ (b : Bool). landed (cond b (roomy r.place r.units s) (refuse n s)) h m u) (sym z)
       ∙ ap (λ (k : ℕ). landed (cond (eqb k 0) (roomy r.place r.units s) (refuse k s)) h m u) e
       ∙ ruled-is
+
+  -- as an answer says it
+  pub carry-fault : (e : Refusal) → number_of e ≡ r.fault → leaving h (Err e) m u ≡ carry c h m u
+  carry-fault e is = carry-faulty (number_of e) is (number-some e)
 
   module _ (n : ℕ) (e : n ≡ r.fault) (none : n ≡ 0) where
     room-is : landed (roomy r.place r.units s) h m u ≡ carry c h m u

@@ -1,6 +1,5 @@
 // A sheet's calls: every refusal, and all or nothing.
 #![tactic(auto)]
 
-mod append; // new units
 pub mod insert; // text and embeds
 pub mod range; // a range formatted or removed

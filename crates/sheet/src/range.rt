@@ -2,14 +2,13 @@
 ghost use Rattle.std.specs.Prelude.{◌≡◌};
 ghost use Rattle.attrs.specs.Packed.{says};
 ghost use Rattle.rules.specs.Calls.{format_range, remove_range};
-ghost use Rattle.layout.specs.Memory.{carry};
-ghost use Rattle.changes.specs.Frame.{leaving};
+ghost use Rattle.layout.specs.Memory.{leaving, carry};
 
 use attrs::Attrs;
 use changes::change::Change;
 use changes::frame::edit;
-use items::Answer;
 use layout::head::Head;
+use refusal::Refusal;
 use refusals::{range_fault, removal_fault};
 use soundness::{measure, sound};
 
@@ -21,49 +20,32 @@ pub fn format(
     index: u32,
     len: u32,
     attrs: Attrs,
-) -> Answer
-    ensures { leaving result items.new units.now ≡ carry (format_range index len (says attrs)) h items.old units.now }
+) -> Result<Head, Refusal>
+    ensures { leaving h result items.new units.now ≡ carry (format_range index len (says attrs)) h items.old units.now }
 {
     if !sound(h, items, units) {
-        return Answer {
-            refusal: 9,
-            head: h,
-        };
+        return Err(Refusal::Broken);
     }
-    let fault = range_fault(h, items, units, index, len);
-    if fault != 0 {
-        return Answer {
-            refusal: fault,
-            head: h,
-        };
-    }
-    edit(h, items, index, Change::Format(len), attrs, h.units)
+    range_fault(h, items, units, index, len)?;
+    edit(h, items, index, Change::Format { len, attrs }, h.units)
 }
 
 // All of the range or nothing: where fewer units stand right of the index, none is deleted.
-pub fn remove_range(h: Head, items: &mut [u64], units: &[u16], index: u32, len: u32) -> Answer
-    ensures { leaving result items.new units.now ≡ carry (remove_range index len) h items.old units.now }
+pub fn remove_range(
+    h: Head,
+    items: &mut [u64],
+    units: &[u16],
+    index: u32,
+    len: u32,
+) -> Result<Head, Refusal>
+    ensures { leaving h result items.new units.now ≡ carry (remove_range index len) h items.old units.now }
 {
-    let m = measure(h, items, units);
-    if !m.sound {
-        return Answer {
-            refusal: 9,
-            head: h,
-        };
-    }
-    let fault = removal_fault(h, items, units, m.len, index, len);
-    if fault != 0 {
-        return Answer {
-            refusal: fault,
-            head: h,
-        };
-    }
+    let Some(all) = measure(h, items, units) else {
+        return Err(Refusal::Broken);
+    };
+    removal_fault(h, items, units, all, index, len)?;
     if len == 0 {
-        return Answer {
-            refusal: 0,
-            head: h,
-        };
+        return Ok(h);
     }
-    let none = Attrs::empty();
-    edit(h, items, index, Change::Remove(len), none, h.units)
+    edit(h, items, index, Change::Remove(len), h.units)
 }
