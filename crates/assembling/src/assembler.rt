@@ -2,7 +2,7 @@
 ghost use Rattle.std.specs.Prelude.{◌≡◌, ◌+◌, ◌<◌};
 ghost use Rattle.rules.specs.Sheet.{width};
 ghost use Rattle.layout.specs.Word.{what_of};
-ghost use Rattle.assembling.specs.Steps.{load, run_op, turned_by, text_by, embed_by, mark_by, pass_by, fresh_asm};
+ghost use Rattle.assembling.specs.Steps.{load, run_op, turned_by, pass_by, fresh_asm};
 
 use crate::marks::{changed, mark_turn, past, pending_of};
 use crate::runs::{Kind, Run, Sight, Turn, grow, inserted};
@@ -69,56 +69,37 @@ fn turned_by(a: Assembler, t: Turn) -> Passed
     }
 }
 
-fn pass_text(a: Assembler, s: Sight, width: u32) -> Passed
-    requires { load a + width < 4294967296 }
-    ensures { result ≡ text_by s.was s.is width a }
-{
-    turned_by(a, grow(s, width, a.run))
-}
-
 // A new embed is told at once; any other is one unit like a text's.
-fn pass_embed(a: Assembler, s: Sight, number: u32) -> Passed
-    requires { load a + 1 < 4294967296 }
-    ensures { result ≡ embed_by s.was s.is number a }
-{
-    if s.was || !s.is {
-        return pass_text(a, s, 1);
-    }
-    let op = Op::Insert(Inserted::Embed(number));
-    Passed {
-        second: Some(DeltaOp {
-            op,
-            attrs: a.current,
-        }),
-        ..turned_by(a, Turn::Starts(None))
-    }
-}
-
-fn pass_mark(a: Assembler, s: Sight, key: u32, value: u32) -> Passed
-    requires { load a < 4294967296 }
-    ensures { result ≡ mark_by s.was s.is key value a }
-{
-    let p = pending_of(a, s, key, value);
-    let told = turned_by(a, mark_turn(p, s.is, a.run));
-    Passed {
-        asm: Assembler {
-            attrs: changed(a.attrs, p, key),
-            current: past(a.current, s.is, key, value),
-            old: past(a.old, s.was, key, value),
-            ..told.asm
-        },
-        ..told
-    }
-}
-
 pub fn pass(a: Assembler, s: Sight, content: Content) -> Passed
     requires { load a + width (what_of content) < 4294967296 }
     ensures { result ≡ pass_by s.was s.is (what_of content) a }
 {
     match content {
-        Content::Text { start: _, len } => pass_text(a, s, len),
-        Content::Embed(n) => pass_embed(a, s, n),
-        Content::Mark { key, value } => pass_mark(a, s, key, value),
+        Content::Text { start: _, len } => turned_by(a, grow(s, len, a.run)),
+        Content::Embed(n) if !s.was && s.is => {
+            let op = Op::Insert(Inserted::Embed(n));
+            Passed {
+                second: Some(DeltaOp {
+                    op,
+                    attrs: a.current,
+                }),
+                ..turned_by(a, Turn::Starts(None))
+            }
+        }
+        Content::Embed(_) => turned_by(a, grow(s, 1, a.run)),
+        Content::Mark { key, value } => {
+            let p = pending_of(a, s, key, value);
+            let told = turned_by(a, mark_turn(p, s.is, a.run));
+            Passed {
+                asm: Assembler {
+                    attrs: changed(a.attrs, p, key),
+                    current: past(a.current, s.is, key, value),
+                    old: past(a.old, s.was, key, value),
+                    ..told.asm
+                },
+                ..told
+            }
+        }
     }
 }
 

@@ -89,7 +89,7 @@ pub(crate) fn changed(attrs: Attrs, p: Pending, key: u32) -> Attrs
     match p {
         Pending::Stays => attrs,
         Pending::Drops => attrs.without(key),
-        Pending::Takes(v) => attrs.with(key, v).attrs,
+        Pending::Takes(v) => attrs.with(key, v).unwrap_or(attrs),
     }
 }
 
@@ -98,7 +98,7 @@ pub(crate) fn past(force: Attrs, seen: bool, key: u32, value: u32) -> Attrs
     ensures { result ≡ past_by force seen key value }
 {
     if seen {
-        force.update_current_attributes(key, value).attrs
+        force.update_current_attributes(key, value).unwrap_or(force)
     } else {
         force
     }

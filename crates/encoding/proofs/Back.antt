@@ -2,20 +2,20 @@
 use Prim.Native.Nat.{ℕ, zero, suc, ◌+◌, ◌*◌, ◌/◌, ◌%◌, ◌<◌}
 use native.Mathlib.Omega.{arith}
 use mathlib.Core.Path.{◌≡◌, refl, sym, ap, ◌∙◌}
-use mathlib.Core.Bool.{false}
+use mathlib.Core.Bool.{Bool, false, cond}
 use mathlib.Core.List.{List, [], ◌∷◌, ◌++◌, append_assoc}
 use lib.Dec.{ltb}
 use lib.ListN.{length, get_or, length-append}
 use lib.Seq.{get_or-append-add}
 use borrow.Author.Tests.{le-ltb}
-use Rattle.std.specs.Prelude.{Some}
+use Rattle.std.specs.Prelude.{Some, None}
 use Rattle.std.proofs.lemmas.Nat.{le_bytes_4}
 use Rattle.attrs.specs.declared.Attrs.{Attrs}
 use Rattle.ops.specs.declared.delta.Inserted.TheVariants.{Text, Embed}
 use Rattle.ops.specs.declared.delta.Op.{Op}
 use Rattle.ops.specs.declared.delta.Op.TheVariants.{Insert, Delete, Retain}
 use Rattle.ops.specs.declared.delta.DeltaOp.{DeltaOp}
-use Rattle.encoding.specs.Words.{kind_of, first_of, second_of, four, words_of, all_words, bytes_of, meant_by, op_from, found_from, found_at}
+use Rattle.encoding.specs.Words.{kind_of, first_of, second_of, four, words_of, all_words, bytes_of, meant_by, with_set, op_from, found_from, found_at}
 
 -- ---- values
 
@@ -68,10 +68,16 @@ pub record Lawful (a : Attrs) : Type 0 where
   pub long : length a.values ≡ 16
   pub bytes : (k : ℕ) → get_or a.values k 0 < 256
 
+-- a mask of 16 bits is one
+masked : (k a b m p q r s : ℕ) → m < 65536 → op_from k a b m p q r s ≡ with_set (record { mask = m; values = bytes_of p q r s }) (meant_by k a b)
+unfolding op_from
+masked k a b m p q r s h = ap (λ (t : Bool). cond t None (with_set (record { mask = m; values = bytes_of p q r s }) (meant_by k a b))) (le-ltb 65535 m (omega arith))
+
 pub op-back : (d : DeltaOp) → Lawful d.attrs
     → op_from (kind_of d.op) (first_of d.op) (second_of d.op) d.attrs.mask (four d.attrs.values 0) (four d.attrs.values 4) (four d.attrs.values 8) (four d.attrs.values 12) ≡ Some d
-unfolding op_from
-op-back d h = rw (le-ltb 65535 d.attrs.mask (omega (arith, h.fits)), kind-back d.op, values-back d.attrs.values h.long h.bytes)
+op-back d h =
+    masked (kind_of d.op) (first_of d.op) (second_of d.op) d.attrs.mask _ _ _ _ h.fits
+    ∙ rw (kind-back d.op, values-back d.attrs.values h.long h.bytes)
 
 -- ---- in a list of numbers
 

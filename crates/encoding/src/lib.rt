@@ -47,6 +47,7 @@ fn op_for(kind: u32, first: u32, second: u32) -> Option<Op>
     }
 }
 
+#[tactic(auto, using(crate::proofs::Parts::too_wide, crate::proofs::Parts::fits_in), unfolding(crate::specs::Words::op_from))]
 fn op_in(words: [u32; WORDS]) -> Option<DeltaOp>
     ensures { result ≡ found_from words 0 }
 {
@@ -61,6 +62,7 @@ fn op_in(words: [u32; WORDS]) -> Option<DeltaOp>
 }
 
 // Operation i of those that lie at the front of `words`; none past the end, or where the numbers say no operation.
+#[tactic(auto, using(crate::proofs::Parts::past_end))]
 pub fn op_at(words: &[u32], i: u32) -> Option<DeltaOp>
     ensures { result ≡ found_at words.now i }
 {
@@ -82,6 +84,7 @@ fn numbers_of(op: Op) -> [u32; 3]
 }
 
 // Operation i is written over the eight numbers of its place.
+#[tactic(auto, using(crate::proofs::Stores::copied))]
 pub fn write_op(words: &mut [u32], i: u32, d: DeltaOp)
     requires { i * 8 + 8 ≤ length words.old }
     ensures { words.new ≡ sets words.old (i * 8) (words_of d) }

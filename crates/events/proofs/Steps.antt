@@ -10,7 +10,7 @@ use Rattle.std.specs.Prelude.{Option, None, Some}
 use Rattle.attrs.specs.declared.Attrs.{Attrs}
 use Rattle.sets.specs.Sets.{Slot, absent, is, Set, Env, at, non_null, as_set}
 use Rattle.attrs.specs.Packed.{says, packed, onto, with_at, taken}
-use Rattle.attrs.specs.declared.Took.{Took}
+use Rattle.attrs.specs.Packed.{Took}
 use Rattle.attrs.proofs.Says.{packed_ext}
 use Rattle.attrs.proofs.Force.{says_in, env_in, put-packed}
 use Rattle.rules.specs.Sheet.{What, text, embed, mark, width}

@@ -127,12 +127,12 @@ finish-units (op ∷ ops) = ahead-units op (finish ops) ∙ on-units op (finish 
 -- ---- the copy
 
 -- a part of the units, unit by unit
-pub part-is : (u : List ℕ) (s n : ℕ) → s + n ≤ length u → units_for u (units_of s n) ≡ take n (behind s u)
-part-is u s zero h = refl
-part-is u s (suc n) h =
+pub part_units : (u : List ℕ) (s n : ℕ) → s + n ≤ length u → units_for u (units_of s n) ≡ take n (behind s u)
+part_units u s zero h = refl
+part_units u s (suc n) h =
     let e : suc s ≡ s + 1 = omega arith in
     let first : behind s u ≡ get_or u s 0 ∷ behind (suc s) u = drop-cons u s 0 (omega arith) in
-    ap (λ (x : List ℕ). get_or u s 0 ∷ x) (part-is u (suc s) n (omega arith)) ∙ ap (take (suc n)) (sym first)
+    ap (λ (x : List ℕ). get_or u s 0 ∷ x) (part_units u (suc s) n (omega arith)) ∙ ap (take (suc n)) (sym first)
 
 -- ---- one item more
 

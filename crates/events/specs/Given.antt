@@ -16,11 +16,8 @@ pub record EventAnswer : Type 0 where
   pub ops : ℕ
   pub units : ℕ
 
-abbrev pub counted : ℕ → Written → EventAnswer
-counted n w = record { refusal = n; ops = w.ops; units = w.units }
-
 abbrev pub answered : Result Written Refusal → EventAnswer
-answered r = counted (refusal_in r) (result_unwrap_or r (record { ops = 0; units = 0 }))
+answered r = let w = result_unwrap_or r (record { ops = 0; units = 0 }) in record { refusal = refusal_in r; ops = w.ops; units = w.units }
 
 pub record Given : Type 0 where
   pub answer : EventAnswer

@@ -18,6 +18,7 @@ pub struct Written {
 }
 
 // Measured first, so that nothing is written where it does not fit.
+#[tactic(auto, using(crate::proofs::Events::walkable))]
 pub fn event(
     h: Head,
     items: &[u64],

@@ -12,6 +12,7 @@ use layout::head::Head;
 use layout::word::{Content, unpack};
 
 // The text that an item gives anew, if it gives one.
+#[tactic(auto, using(crate::proofs::Texts::part_units))]
 fn new_text(units: &[u16], s: Sight, c: Content) -> &[u16]
     requires { Fits (length units.now) (what_of c) }
     ensures { result.now ≡ units_for units.now (new_glyphs s.was s.is (what_of c)) }

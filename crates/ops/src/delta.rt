@@ -25,6 +25,7 @@ pub struct DeltaOp {
     pub attrs: Attrs,
 }
 
+// The first `count` operations are the delta's: with no heap they lie in the struct itself.
 #[derive(Clone, Copy)]
 pub struct Delta {
     pub count: u32,

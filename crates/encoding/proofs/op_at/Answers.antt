@@ -4,19 +4,8 @@ use native.Mathlib.Omega.{arith}
 use mathlib.Core.Path.{sym, ap, ◌∙◌}
 use lib.ListN.{length-drop, take}
 use lib.Seq.{take_all}
-use Rattle.encoding.proofs.Parts.{from_chunk, past_end, at_place}
+use Rattle.encoding.proofs.Parts.{from_chunk, at_place}
 use Rattle.encoding.proofs.op_at.Goals as goal
-
-pub returns-in_err-rest : goal.returns-in_err-rest
-returns-in_err-rest c =
-    let h = c.in_err-rest.ensures.lookup in
-    c.from_residual.ensures ∙ sym (past_end c.args.words.now c.args.i (omega (arith, h)))
-
-pub returns-in_err-word : goal.returns-in_err-word
-returns-in_err-word c =
-    let h = c.in_err-word.ensures.cases in
-    let k = c.in_ok-rest.ensures.lookup.0 in
-    c.from_residual-in_err-word.ensures ∙ sym (past_end c.args.words.now c.args.i (omega (arith, h, k.3)))
 
 pub returns : goal.returns
 returns c =

@@ -6,7 +6,7 @@ use lib.ListN.{length}
 use Rattle.rules.specs.Reading.{before, live}
 use Rattle.events.specs.Given.{given, refused}
 use Rattle.layout.proofs.Soundness.{sound-parts}
-use Rattle.events.proofs.Events.{walkable, given-broken, same, ops-is, units-is, no_words, no-units, all-fits, wrote, text-room, filled}
+use Rattle.events.proofs.Events.{given-broken, same, ops-is, units-is, no_words, no-units, all-fits, wrote, text-room, filled}
 use Rattle.events.proofs.event.event.Goals as goal
 use Rattle.events.proofs.event.event.Goals.{then-m-ops-via-then-m-ops, then-m-ops-via-else-m-ops+then-m-out}
 
@@ -14,9 +14,6 @@ pub returns-then-not-sound : goal.returns-then-not-sound
 returns-then-not-sound c =
     let a = c.args in
     rw (given-broken a.h a.items.now a.units.now _ _ (sym c.sound.ensures ∙ c.if-not-sound.true)) (record { answer = refl; words = refl; texts = refl })
-
-pub walk-m-requires-clause-walkable : goal.walk-m-requires-clause-walkable
-walk-m-requires-clause-walkable c = walkable c.args.h c.args.items.now c.args.units.now (sym c.sound.ensures ∙ c.if-not-sound.false)
 
 pub returns-then-m-ops : goal.returns-then-m-ops
 returns-then-m-ops c =
@@ -31,15 +28,16 @@ returns-then-m-ops c =
     in
     rw short (record { answer = refl; words = same a.h a.items.now a.units.now ok _ a.out.now _ _ k; texts = refl })
 
-pub walk-requires-clause-walkable : goal.walk-requires-clause-walkable
-walk-requires-clause-walkable c = walkable c.args.h c.args.items.now c.args.units.now (sym c.sound.ensures ∙ c.if-not-sound.false)
-
-pub fill-requires : goal.fill-requires
-fill-requires c =
+pub fill-requires-clause-units_in_bounds : goal.fill-requires-clause-units_in_bounds
+fill-requires-clause-units_in_bounds c =
     let a = c.args in
-    let ok = sym c.sound.ensures ∙ c.if-not-sound.false in
-    let s = sound-parts a.h a.items.now a.units.now ok in
-    record { walkable = walkable a.h a.items.now a.units.now ok; units_in_bounds = omega (arith, s.room, s.used); in_bounds = text-room a.h a.items.now a.units.now ok _ a.out.now _ _ c.walk-m.ensures c.if-m-out.false }
+    let s = sound-parts a.h a.items.now a.units.now (sym c.sound.ensures ∙ c.if-not-sound.false) in
+    omega (arith, s.room, s.used)
+
+pub fill-requires-clause-in_bounds : goal.fill-requires-clause-in_bounds
+fill-requires-clause-in_bounds c =
+    let a = c.args in
+    text-room a.h a.items.now a.units.now (sym c.sound.ensures ∙ c.if-not-sound.false) _ a.out.now _ _ c.walk-m.ensures c.if-m-out.false
 
 pub returns : goal.returns
 returns c =
