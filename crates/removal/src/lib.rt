@@ -27,7 +27,7 @@ fn delete_units(h: Head, items: &mut [u64], p: Place, len: u32) -> At
     // The count is the place's own, which callers read.
     while at.todo > 0 {
         if rest == 0 {
-            return At { head: h, place: at };
+            break;
         }
         let w = shown_len(unpack(items[at.right as usize]));
         if rest < w {
