@@ -1,16 +1,14 @@
 -- The turns of the walk to an index. Assumes nothing.
 use Prim.Native.Nat.{ℕ, zero, suc, ◌-◌, ◌<◌, ◌≤◌}
-use native.Mathlib.Omega.{arith}
 use mathlib.Core.Path.{◌≡◌, refl, ap, ◌∙◌}
-use mathlib.Core.Bool.{Bool, true, false, cond}
 use mathlib.Core.List.{List, [], ◌∷◌}
 use borrow.Author.Tests.{le-leb, lt-leb}
-use Rattle.rules.specs.Sheet.{Item, dead, width}
+use Rattle.rules.specs.Sheet.{Item}
 use Rattle.rules.specs.Places.{Move, stay, over, split, uses, place}
 use Rattle.layout.specs.declared.head.Head.{Head}
 use Rattle.layout.specs.Chain.{item_at}
 use Rattle.arena.specs.declared.Place.{Place}
-use Rattle.arena.specs.Places.{SIZE, right_of, Carried, Going, Cuttable, forward_of, staying, halving, placing}
+use Rattle.arena.specs.Places.{right_of, Carried, Going, forward_of, staying, halving, placing}
 use Rattle.arena.proofs.Carried.{carried-then}
 use Rattle.arena.proofs.Steps.{forward-carried, cut-more}
 use Rattle.arena.proofs.Walks.{going-same, going_end, going-ahead, going-by, going-stopped}
@@ -32,14 +30,6 @@ place_inside : (n : ℕ) (i : Item) (l : List Item) (m : ℕ) → (n ≡ 0 → �
 place_inside zero i l m z h = absurd (z refl)
 place_inside (suc n) i l m z h = rw (lt-leb (uses i) (suc n) h)
 
--- what uses an index is as wide
-pub uses-width : (n : ℕ) (i : Item) → n < uses i → n < width i.what
-uses-width n i h = go (dead i) h
-  where
-    go : (b : Bool) → n < cond b 0 (width i.what) → n < width i.what
-    go true h = absurd (omega arith)
-    go false h = h
-
 -- ---- the turns
 module _ {f : Move} {h : Head} {m : List ℕ} {p : Place} {r : ℕ} {h₁ : Head} {m₁ : List ℕ} {p₁ : Place} (o : Going f h m p (placing r) h₁ m₁ p₁) where
   pub found-zero : r ≡ 0 → Carried f h m p h₁ m₁ p₁
@@ -60,6 +50,3 @@ module _ {f : Move} {h : Head} {m : List ℕ} {p : Place} {r : ℕ} {h₁ : Head
         let x = item_at m₁ p₁.right in
         let d = forward-carried c.stands (cut-more o.stands more c).0 q eq in
         going-stopped (going-by o more (carried-then c d) staying (λ e l' n. place_inside r x l' n some l))
-
-    pub found-cuttable : r < uses (item_at m₁ p₁.right) → h₁.items < SIZE → Cuttable h₁ m₁ p₁ r
-    found-cuttable l room = record { stands = o.stands; room = room; more = more; some = omega arith; inside = uses-width r (item_at m₁ p₁.right) l }

@@ -6,7 +6,6 @@ use mathlib.Core.Bool.{Bool, true, false, cond}
 use mathlib.Core.List.{List, [], ◌∷◌, ◌++◌}
 use lib.ListN.{get_or, take}
 use borrow.Author.Tests.{ne_eqb}
-use Rattle.attrs.specs.declared.Attrs.{Attrs}
 use Rattle.sets.specs.Sets.{Env, none, as_set}
 use Rattle.attrs.specs.Packed.{Took, packed, env_of}
 use Rattle.attrs.proofs.Force.{update-packed, env-packed}
@@ -16,12 +15,11 @@ use Rattle.rules.specs.Places.{after}
 use Rattle.layout.specs.declared.head.Head.{Head}
 use Rattle.layout.specs.declared.word.Content.{Content}
 use Rattle.layout.specs.declared.word.Content.TheVariants.{Text, Embed, Mark}
-use Rattle.layout.specs.declared.word.Item as Word
-use Rattle.layout.specs.Word.{what_of, unpack_of, live_mark}
+use Rattle.layout.specs.Word.{what_of, unpack_of}
 use Rattle.layout.specs.Chain.{item_at, next_at, chain, walks}
 use Rattle.layout.proofs.Links.{walks_parts}
 use Rattle.arena.specs.declared.Place.{Place}
-use Rattle.arena.specs.Places.{InRange, Neat, left_of, in_force, Standing, passed_force, behind}
+use Rattle.arena.specs.Places.{InRange, Neat, left_of, in_force, Standing, passed_force}
 use Rattle.arena.proofs.Carried.{after-append}
 
 -- an item by its parts
@@ -39,18 +37,6 @@ pub force-past : (L : List Item) (n : ℕ) (c : Content) (d a g : Bool) → InRa
 unfolding in_force
 force-past L n c d a g t =
     one-past (after none L) n c d a g t ∙ ap (λ (e : Env). packed (as_set e)) (sym (after-append none L (item_of n c d a g ∷ [])))
-
--- only a live mark has to be passed
-pub behind-told : (p : Place) (it : Word.Item) (b : Bool) → live_mark it.dead (what_of it.content) ≡ b
-    → record { left = p.right; right = it.next; todo = p.todo - 1; force = cond b (passed_force p.force false it.content) p.force } ≡ behind p it
-unfolding passed_force
-behind-told p it b e = rw (sym e) (ap (λ (a : Attrs). record { left = p.right; right = it.next; todo = p.todo - 1; force = a }) (go p.force it.dead it.content))
-  where
-    go : (a : Attrs) (d : Bool) (c : Content) → cond (live_mark d (what_of c)) (passed_force a false c) a ≡ passed_force a d c
-    go a true c = refl
-    go a false (Text s l) = refl
-    go a false (Embed x) = refl
-    go a false (Mark k v) = refl
 
 pub force-none : packed (as_set none) ≡ in_force []
 unfolding in_force

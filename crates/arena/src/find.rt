@@ -17,7 +17,7 @@ pub fn find_position(h: Head, items: &mut [u64], index: u32) -> At
     // The count is the place's own, which callers read.
     while p.todo > 0 {
         if rest == 0 {
-            return At { head: h, place: p };
+            break;
         }
         let it = unpack(items[p.right as usize]);
         let w = shown_len(it);

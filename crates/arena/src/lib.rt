@@ -48,6 +48,7 @@ impl Place {
 
     // Behind the item right of the place, which is this one. Its set is touched at a live mark alone: a walk that hands whole
     // places from turn to turn takes more than twice as long.
+    #[tactic(auto, unfolding(crate::specs::Places::passed_force))]
     fn pass(&mut self, it: Item)
         requires { 0 < self.old.todo }
         ensures { self.new ≡ behind self.old it }
@@ -69,6 +70,7 @@ pub struct At {
 }
 
 // What is in force behind a live item.
+#[tactic(auto, unfolding(crate::specs::Places::passed_force))]
 fn passed(force: Attrs, content: Content) -> Attrs
     ensures { result ≡ passed_force force false content }
 {

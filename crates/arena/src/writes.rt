@@ -10,6 +10,7 @@ use layout::head::Head;
 use layout::word::{Content, Item, pack, relink, unpack};
 
 // A new item between two neighbours, or before the first.
+#[tactic(auto, unfolding(crate::specs::Writes::front_mem, crate::specs::Writes::after_mem))]
 fn put_after(h: Head, items: &mut [u64], left: u32, right: u32, content: Content) -> Head
     requires { (h.items < SIZE) × (length items.old ≡ SIZE) × Linkable left }
     ensures { (result ≡ put_head h left) × (items.new ≡ put_mem items.old h.items left right content) }
@@ -82,6 +83,7 @@ fn halves(c: Content, n: u32) -> (Content, Content)
 }
 
 // The text of item x cut in two after n units. The right half takes the next number.
+#[tactic(auto, unfolding(crate::specs::Writes::cut_mem))]
 fn cut(h: Head, items: &mut [u64], x: u32, n: u32) -> Head
     requires { (h.items < SIZE) × (length items.old ≡ SIZE) × (x < SIZE) × Within n (unpack_of (get_or items.old x 0)).content }
     ensures { (result ≡ cut_head h) × (items.new ≡ cut_mem items.old h.items x n) }

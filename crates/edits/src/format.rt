@@ -39,12 +39,10 @@ fn walks_on(it: Item, left: u32, remembered: Attrs) -> bool
 fn has_key_of(attrs: Attrs, c: Content) -> bool
     ensures { result ≡ key_in (says attrs) (what_of c) }
 {
-    match c {
-        Content::Text { .. } | Content::Embed(_) => false,
-        Content::Mark { key, .. } => attrs.has(key),
-    }
+    matches!(c, Content::Mark { key, .. } if attrs.has(key))
 }
 
+#[tactic(auto, unfolding(crate::specs::Formats::turn_of, crate::specs::Formats::live_turn))]
 fn turn_of(w: u64, left: u32, attrs: Attrs, remembered: Attrs) -> Turn
     ensures { result ≡ turn_of (says attrs) left (says remembered) (unpack_of w).dead (what_of (unpack_of w).content) }
 {

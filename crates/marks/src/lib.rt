@@ -21,13 +21,7 @@ fn passes(w: u64, attrs: Attrs) -> bool
     ensures { result ≡ passable (says attrs) (item_from 0 (w / 4096)) }
 {
     let it = unpack(w);
-    if it.dead {
-        return true;
-    }
-    match it.content {
-        Content::Text { .. } | Content::Embed(_) => false,
-        Content::Mark { key, value } => attrs.agrees(key, value),
-    }
+    it.dead || matches!(it.content, Content::Mark { key, value } if attrs.agrees(key, value))
 }
 
 pub fn minimize_attr_changes(h: Head, items: &[u64], p: Place, attrs: Attrs) -> Place

@@ -17,12 +17,11 @@ use Rattle.layout.specs.declared.word.Content.TheVariants.{Text, Embed, Mark}
 use Rattle.layout.specs.Word.{what_of, unpack_of}
 use Rattle.layout.specs.Chain.{item_at}
 use Rattle.arena.specs.declared.Place.{Place}
-use Rattle.arena.specs.Places.{SIZE, InRange, right_of, Carried, Going, Cuttable, forward_of, staying, halving}
+use Rattle.arena.specs.Places.{InRange, right_of, Carried, Going, forward_of, staying, halving}
 use Rattle.arena.specs.Writes.{kill_mem}
 use Rattle.arena.proofs.Carried.{carried-then}
 use Rattle.arena.proofs.Standing.{neat-here}
 use Rattle.arena.proofs.Steps.{kill-carried, forward-carried, cut-more}
-use Rattle.arena.proofs.Finds.{uses-width}
 use Rattle.arena.proofs.Walks.{going-same, going_end, going-ahead, going-kill, going-by, going-stopped}
 use Rattle.removal.specs.Tidies.{deleting}
 
@@ -100,6 +99,3 @@ module _ {f : Move} {h : Head} {m : List ℕ} {p : Place} {r : ℕ} {h₁ : Head
         let d = kill-carried c.stands two k ek in
         let a = forward-carried d.stands two q eq in
         going-stopped (going-by o more (carried-then (carried-then c d) a) staying (λ e l n. kill-inside r x l n some u))
-
-    pub cuttable : r < uses (item_at m₁ p₁.right) → h₁.items < SIZE → Cuttable h₁ m₁ p₁ r
-    cuttable u room = record { stands = o.stands; room = room; more = more; some = omega arith; inside = uses-width r (item_at m₁ p₁.right) u }

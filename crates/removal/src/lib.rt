@@ -27,7 +27,7 @@ fn delete_units(h: Head, items: &mut [u64], p: Place, len: u32) -> At
     // The count is the place's own, which callers read.
     while at.todo > 0 {
         if rest == 0 {
-            return At { head: h, place: at };
+            break;
         }
         let w = shown_len(unpack(items[at.right as usize]));
         if rest < w {
@@ -79,13 +79,8 @@ fn is_idle(w: u64, start: Attrs, end: Attrs) -> bool
     ensures { result ≡ idle_item (env_of start) (env_of end) (item_from 0 (w / 4096)) }
 {
     let it = unpack(w);
-    if it.dead {
-        return false;
-    }
-    match it.content {
-        Content::Text { .. } | Content::Embed(_) => false,
-        Content::Mark { key, value } => does_nothing(key, value, start, end),
-    }
+    !it.dead
+        && matches!(it.content, Content::Mark { key, value } if does_nothing(key, value, start, end))
 }
 
 // Live marks that do nothing are deleted, up to the place that has `stop` items to its right.

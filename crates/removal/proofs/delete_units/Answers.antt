@@ -43,5 +43,5 @@ loop-at-preserved c =
     let left = rw (c.shown_len-w.ensures, c.unpack.ensures) at done in
     rw (c.shown_len-w.ensures, c.unpack.ensures) (deleted-past at.invariant c.loop-at-test.true c.if-rest-eq0.false w _ left _ c.forward-at.ensures)
 
-pub returns : goal.returns
-returns c = deleted-end c.loop-at.invariant c.loop-at-test.false
+pub returns-after-loop-at : goal.returns-after-loop-at
+returns-after-loop-at c = deleted-end c.loop-at.invariant c.loop-at-test.false

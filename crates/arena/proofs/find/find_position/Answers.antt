@@ -31,5 +31,5 @@ loop-p-preserved c =
     let w = rw (c.shown_len-w.ensures, c.unpack-it.ensures) at c.if-rest-w.false in
     rw (c.pass.ensures, c.shown_len-w.ensures, c.unpack-it.ensures) (found-past c.loop-p.invariant c.loop-p-test.true c.if-rest-eq0.false w _ refl)
 
-pub returns : goal.returns
-returns c = found-end c.loop-p.invariant c.loop-p-test.false
+pub returns-after-loop-p : goal.returns-after-loop-p
+returns-after-loop-p c = found-end c.loop-p.invariant c.loop-p-test.false
