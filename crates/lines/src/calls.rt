@@ -163,6 +163,7 @@ fn ranged(name: u8, index: u32, n: u32) -> Call
     }
 }
 
+// One number more than behind a text's letter, and no units; the reading of the fields is the one line that both have.
 fn ranged_call(rest: Rest, name: u8) -> Option<Asked>
     ensures { RangedAsked rest.entry.line.now rest.entry.from name result }
 {
