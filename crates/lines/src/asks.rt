@@ -4,7 +4,7 @@ ghost use Rattle.lines.specs.Asks.{integer_of, numbered_entry, word_entry, ended
 
 use crate::fields::{Field, letter, read_field};
 use words::numbers::read_number;
-use words::words::next_word;
+use words::words::{Rest, next_word};
 
 // An integer is told by its two's complement. The bytes of a name or a string are those of the line from `at` on.
 #[derive(Clone, Copy)]
@@ -58,25 +58,24 @@ fn worded(w: &[u8], name: u8) -> Option<Entry>
 }
 
 // One word, and then the end of the line.
-fn ended(s: &[u8], from: usize, name: u8) -> Option<Entry>
-    requires { from ≤ length s.now }
-    ensures { result ≡ ended_entry s.now from name }
+fn ended(rest: Rest, name: u8) -> Option<Entry>
+    ensures { result ≡ ended_entry rest.entry.line.now rest.entry.from name }
 {
-    let w = next_word(s, from);
-    match read_field(s, w.end).field {
-        Field::Line => worded(&s[w.start..w.end], name),
+    let line = rest.line;
+    let w = next_word(rest);
+    match read_field(Rest { line, from: w.end }).field {
+        Field::Line => worded(&line[w.start..w.end], name),
         Field::Op | Field::Word(_) => None,
     }
 }
 
-fn named_entry(s: &[u8], from: usize, name: u8) -> Option<Entry>
-    requires { from ≤ length s.now }
-    ensures { result ≡ entry_by s.now from name }
+fn named_entry(rest: Rest, name: u8) -> Option<Entry>
+    ensures { result ≡ entry_by rest.entry.line.now rest.entry.from name }
 {
     match name {
         b'k' => Some(Entry::Name),
         b's' => Some(Entry::String),
-        _ => ended(s, from, name),
+        _ => ended(rest, name),
     }
 }
 
@@ -88,13 +87,13 @@ fn after(n: usize, end: usize) -> usize
     if end < n { end + 1 } else { end }
 }
 
-pub fn read_entry(s: &[u8]) -> AskedEntry
-    ensures { EntryIs s.now result }
+pub fn read_entry(line: &[u8]) -> AskedEntry
+    ensures { EntryIs line.now result }
 {
-    let w = next_word(s, 0);
-    let name = letter(&s[w.start..w.end]);
+    let w = next_word(Rest { line, from: 0 });
+    let name = letter(&line[w.start..w.end]);
     AskedEntry {
-        entry: named_entry(s, w.end, name),
-        at: after(s.len(), w.end),
+        entry: named_entry(Rest { line, from: w.end }, name),
+        at: after(line.len(), w.end),
     }
 }

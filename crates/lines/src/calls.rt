@@ -6,7 +6,7 @@ use crate::fields::{End, Field, Fields, letter, read_field, read_fields};
 use attrs::Attrs;
 use refusal::Refusal;
 use words::numbers::read_number;
-use words::words::next_word;
+use words::words::{Rest, next_word};
 
 #[derive(Clone, Copy)]
 pub enum Call {
@@ -68,13 +68,12 @@ pub struct Numbered {
     pub next: usize,
 }
 
-pub(crate) fn number_at(s: &[u8], from: usize) -> Numbered
-    requires { from ≤ length s.now }
-    ensures { NumberIs s.now from result }
+pub(crate) fn number_at(rest: Rest) -> Numbered
+    ensures { NumberIs rest.entry.line.now rest.entry.from result }
 {
-    let w = next_word(s, from);
+    let w = next_word(rest);
     Numbered {
-        number: read_number(&s[w.start..w.end], 10),
+        number: read_number(&rest.line[w.start..w.end], 10),
         next: w.end,
     }
 }
@@ -118,11 +117,10 @@ fn plain(name: u8) -> Call
     }
 }
 
-fn plain_call(s: &[u8], from: usize, name: u8) -> Option<Asked>
-    requires { from ≤ length s.now }
-    ensures { result ≡ plain_asked s.now from name }
+fn plain_call(rest: Rest, name: u8) -> Option<Asked>
+    ensures { result ≡ plain_asked rest.entry.line.now rest.entry.from name }
 {
-    match read_field(s, from).field {
+    match read_field(rest).field {
         Field::Line => Some(Asked::bare(plain(name))),
         Field::Op | Field::Word(_) => None,
     }
@@ -144,13 +142,13 @@ fn marks(name: u8) -> bool
     !matches!(name, b'i' | b'e' | b'r')
 }
 
-fn text_call(s: &[u8], from: usize, name: u8, units: &mut [u16]) -> Option<Asked>
-    requires { from ≤ length s.now }
-    ensures { TextAsked s.now from name units.old units.new result }
+fn text_call(rest: Rest, name: u8, units: &mut [u16]) -> Option<Asked>
+    ensures { TextAsked rest.entry.line.now rest.entry.from name units.old units.new result }
 {
-    let n = number_at(s, from);
+    let line = rest.line;
+    let n = number_at(rest);
     let index = n.number?;
-    let f = read_fields(s, Fields::start(n.next, 0), marks(name), units);
+    let f = read_fields(Rest { line, from: n.next }, 0, marks(name), units);
     Asked::with_fields(text(name, index), f)
 }
 
@@ -165,32 +163,34 @@ fn ranged(name: u8, index: u32, n: u32) -> Call
     }
 }
 
-fn ranged_call(s: &[u8], from: usize, name: u8) -> Option<Asked>
-    requires { from ≤ length s.now }
-    ensures { RangedAsked s.now from name result }
+// One number more than behind a text's letter, and no units; the reading of the fields is the one line that both have.
+fn ranged_call(rest: Rest, name: u8) -> Option<Asked>
+    ensures { RangedAsked rest.entry.line.now rest.entry.from name result }
 {
-    let a = number_at(s, from);
+    let line = rest.line;
+    let a = number_at(rest);
     let index = a.number?;
-    let b = number_at(s, a.next);
+    let b = number_at(Rest { line, from: a.next });
     let n = b.number?;
-    let f = read_fields(s, Fields::start(b.next, 0), marks(name), &mut []);
+    let f = read_fields(Rest { line, from: b.next }, 0, marks(name), &mut []);
     Asked::with_fields(ranged(name, index, n), f)
 }
 
 // None where the line is no call. Units of text go to the front of the lent ones. A delta's operations are left for `read_delta`.
 #[tactic(auto, unfolding(crate::specs::Calls::asked_in, crate::specs::Calls::units_in))]
-pub fn read_call(s: &[u8], units: &mut [u16]) -> Option<Asked>
-    ensures { CallAsked s.now units.old units.new result }
+pub fn read_call(line: &[u8], units: &mut [u16]) -> Option<Asked>
+    ensures { CallAsked line.now units.old units.new result }
 {
-    let w = next_word(s, 0);
-    if w.start == w.end || s[w.start] == b'#' {
+    let w = next_word(Rest { line, from: 0 });
+    if w.start == w.end || line[w.start] == b'#' {
         return Some(Asked::bare(Call::Silent));
     }
-    let name = letter(&s[w.start..w.end]);
+    let name = letter(&line[w.start..w.end]);
+    let rest = Rest { line, from: w.end };
     match kind_of(name)? {
-        Kind::Plain => plain_call(s, w.end, name),
-        Kind::Text => text_call(s, w.end, name, units),
-        Kind::Ranged => ranged_call(s, w.end, name),
+        Kind::Plain => plain_call(rest, name),
+        Kind::Text => text_call(rest, name, units),
+        Kind::Ranged => ranged_call(rest, name),
         Kind::Delta => Some(Asked::bare(Call::Delta)),
         Kind::Entry => Some(Asked::bare(Call::Entry)),
     }

@@ -8,9 +8,9 @@ use crate::calls::number_at;
 use crate::fields::{End, Field, Fields, letter, read_field, read_fields};
 use ops::delta::{Delta, DeltaOp, Inserted, Op};
 use refusal::Refusal;
-use words::words::next_word;
+use words::words::{Rest, next_word};
 
-// The operations so far, how many units of theirs lie in the lent ones, and what a set refused of its attributes.
+// The operations so far, how many units of theirs lie in the lent ones, and what a set refused of its attributes. One more follows where `end` is `Op`.
 #[derive(Clone, Copy)]
 pub struct AskedDelta {
     pub delta: Delta,
@@ -32,7 +32,7 @@ fn longer(delta: Delta, op: DeltaOp) -> Delta
     ensures { result ≡ longer_of (pushed delta op) }
 {
     match delta.push(op) {
-        Ok(longer) => longer,
+        Ok(more) => more,
         Err(_) => Delta {
             count: Delta::OPS + 1,
             ..delta
@@ -62,9 +62,9 @@ impl AskedDelta {
     fn with_op(self, op: Op, f: Fields, count: usize) -> AskedDelta
         ensures { result ≡ with_op self op f count }
     {
-        let attrs = f.attrs;
+        let op = DeltaOp { op, attrs: f.attrs };
         AskedDelta {
-            delta: longer(self.delta, DeltaOp { op, attrs }),
+            delta: longer(self.delta, op),
             at: f.at,
             count,
             refusal: f.refusal.or(self.refusal),
@@ -73,14 +73,14 @@ impl AskedDelta {
     }
 }
 
-fn text_op(s: &[u8], d: AskedDelta, from: usize, units: &mut [u16]) -> AskedDelta
-    requires from_in_bounds { from ≤ length s.now }
+// The bound on the lent units stands in each contract from `read_delta` down to here, since a slice that is lent to be written has no ghost field.
+fn text_op(rest: Rest, d: AskedDelta, units: &mut [u16]) -> AskedDelta
     requires count_in_bounds { d.count ≤ length units.old }
     requires units_len_bound { length units.old < 4294967296 }
-    ensures { ReadTo s.now units.old units.new result (text_op s.now d from units.old) }
+    ensures { ReadTo rest.entry.line.now units.old units.new result (text_op rest.entry.line.now d rest.entry.from units.old) }
 {
     let start = d.count;
-    let f = read_fields(s, Fields::start(from, start), true, units);
+    let f = read_fields(rest, start, true, units);
     let end = f.count;
     let part = Inserted::Text {
         start: start as u32,
@@ -100,15 +100,15 @@ fn op_of(name: u8, n: u32) -> Op
 }
 
 // Attributes may stand behind any number but that of a deletion.
-fn numbered_op(s: &[u8], d: AskedDelta, from: usize, name: u8) -> AskedDelta
-    requires { from ≤ length s.now }
-    ensures { NumberedIs s.now d from name result }
+fn numbered_op(rest: Rest, d: AskedDelta, name: u8) -> AskedDelta
+    ensures { NumberedIs rest.entry.line.now d rest.entry.from name result }
 {
-    let a = number_at(s, from);
+    let line = rest.line;
+    let a = number_at(rest);
     let Some(n) = a.number else {
         return d.stopped(a.next, End::Wrong);
     };
-    let f = read_fields(s, Fields::start(a.next, 0), name != b'd', &mut []);
+    let f = read_fields(Rest { line, from: a.next }, 0, name != b'd', &mut []);
     d.with_op(op_of(name, n), f, d.count)
 }
 
@@ -123,56 +123,55 @@ fn sort_of(name: u8) -> Option<Sort>
     }
 }
 
-fn one_op(s: &[u8], d: AskedDelta, units: &mut [u16]) -> AskedDelta
-    requires at_in_bounds { d.at ≤ length s.now }
+fn one_op(rest: Rest, d: AskedDelta, units: &mut [u16]) -> AskedDelta
     requires count_in_bounds { d.count ≤ length units.old }
     requires units_len_bound { length units.old < 4294967296 }
-    ensures { ReadTo s.now units.old units.new result (op_in s.now d (word_at s.now d.at) units.old) }
+    ensures { ReadTo rest.entry.line.now units.old units.new result (op_in rest.entry.line.now d (word_at rest.entry.line.now rest.entry.from) units.old) }
 {
-    let w = next_word(s, d.at);
-    let name = letter(&s[w.start..w.end]);
+    let line = rest.line;
+    let w = next_word(rest);
+    let name = letter(&line[w.start..w.end]);
+    let behind = Rest { line, from: w.end };
     match sort_of(name) {
-        Some(Sort::Texts) => text_op(s, d, w.end, units),
-        Some(Sort::Numbers) => numbered_op(s, d, w.end, name),
+        Some(Sort::Texts) => text_op(behind, d, units),
+        Some(Sort::Numbers) => numbered_op(behind, d, name),
         None => d.stopped(w.end, End::Wrong),
     }
 }
 
 // A line has fewer operations than bytes.
-fn all_ops(s: &[u8], from: AskedDelta, units: &mut [u16]) -> AskedDelta
-    requires at_in_bounds { from.at ≤ length s.now }
-    requires count_in_bounds { from.count ≤ length units.old }
-    requires units_len_bound { length units.old < 4294967296 }
-    ensures { ReadTo s.now units.old units.new result (all_ops (length s.now + 1) s.now from units.old) }
+fn all_ops(rest: Rest, units: &mut [u16]) -> AskedDelta
+    requires { length units.old < 4294967296 }
+    ensures { ReadTo rest.entry.line.now units.old units.new result (all_ops (length rest.entry.line.now + 1) rest.entry.line.now (start_ops rest.entry.from) units.old) }
 {
-    let mut d = from;
-    for _ in 0..=s.len() {
+    let line = rest.line;
+    let mut d = AskedDelta::start(rest.from);
+    for _ in 0..=line.len() {
         if d.end != End::Op {
             return d;
         }
-        d = one_op(s, d, units);
+        d = one_op(Rest { line, from: d.at }, d, units);
     }
     d
 }
 
-fn ops_from(s: &[u8], from: usize, units: &mut [u16]) -> AskedDelta
-    requires from_in_bounds { from ≤ length s.now }
-    requires units_len_bound { length units.old < 4294967296 }
-    ensures { ReadTo s.now units.old units.new result (delta_in s.now from units.old) }
+fn ops_from(rest: Rest, units: &mut [u16]) -> AskedDelta
+    requires { length units.old < 4294967296 }
+    ensures { ReadTo rest.entry.line.now units.old units.new result (delta_in rest.entry.line.now rest.entry.from units.old) }
 {
-    let d = AskedDelta::start(from);
-    match read_field(s, from).field {
-        Field::Line => d.stopped(from, End::Line),
-        Field::Op => d.stopped(from, End::Wrong),
-        Field::Word(_) => all_ops(s, d, units),
+    let from = rest.from;
+    match read_field(rest).field {
+        Field::Line => AskedDelta::start(from).stopped(from, End::Line),
+        Field::Op => AskedDelta::start(from).stopped(from, End::Wrong),
+        Field::Word(_) => all_ops(rest, units),
     }
 }
 
 // The operations behind the letter of the line, with the units of their texts at the front of the lent ones. It is a delta where `end` is `Line`.
-pub fn read_delta(s: &[u8], units: &mut [u16]) -> AskedDelta
+pub fn read_delta(line: &[u8], units: &mut [u16]) -> AskedDelta
     requires { length units.old < 4294967296 }
-    ensures { ReadTo s.now units.old units.new result (delta_in s.now (word_at s.now 0).end units.old) }
+    ensures { ReadTo line.now units.old units.new result (delta_in line.now (word_at line.now 0).end units.old) }
 {
-    let w = next_word(s, 0);
-    ops_from(s, w.end, units)
+    let w = next_word(Rest { line, from: 0 });
+    ops_from(Rest { line, from: w.end }, units)
 }

@@ -5,7 +5,7 @@ ghost use Rattle.lines.specs.Fields.{letter_of, ReadIs, start_at, stopped_at, pa
 use attrs::Attrs;
 use refusal::Refusal;
 use words::numbers::{Piece, read_piece};
-use words::words::next_word;
+use words::words::{Rest, next_word};
 
 // What stands next: the end of the line, a `;`, or a word, which may say nothing.
 #[derive(Clone, Copy)]
@@ -40,8 +40,8 @@ pub struct Fields {
     pub end: End,
 }
 
-// The byte of a word of one byte; 0, which is no call's letter, for any other.
-pub fn letter(w: &[u8]) -> u8
+// The byte of a word of one byte; 0, no call's letter, for any other: `entry_by` says of such a line too what it asks for.
+pub(crate) fn letter(w: &[u8]) -> u8
     ensures { result ≡ letter_of w.now }
 {
     match w {
@@ -51,12 +51,11 @@ pub fn letter(w: &[u8]) -> u8
 }
 
 #[tactic(auto, unfolding(crate::specs::Fields::field_of))]
-pub fn read_field(s: &[u8], from: usize) -> Read
-    requires { from ≤ length s.now }
-    ensures { ReadIs s.now from result }
+pub(crate) fn read_field(rest: Rest) -> Read
+    ensures { ReadIs rest.entry.line.now rest.entry.from result }
 {
-    let w = next_word(s, from);
-    let part = &s[w.start..w.end];
+    let w = next_word(rest);
+    let part = &rest.line[w.start..w.end];
     let field = if w.start == w.end {
         Field::Line
     } else if letter(part) == b';' {
@@ -68,7 +67,7 @@ pub fn read_field(s: &[u8], from: usize) -> Read
 }
 
 impl Fields {
-    pub fn start(at: usize, count: usize) -> Fields
+    fn start(at: usize, count: usize) -> Fields
         ensures { result ≡ start_at at count }
     {
         Fields {
@@ -141,17 +140,17 @@ impl Fields {
     }
 }
 
-// A line has fewer words than bytes, so one turn for each byte and one for the end is enough.
-pub fn read_fields(s: &[u8], from: Fields, marks: bool, units: &mut [u16]) -> Fields
-    requires { from.at ≤ length s.now }
-    ensures { Gathers s.now from marks units.old units.new result }
+// The units go behind the first `count` lent ones. A line has fewer words than bytes, so one turn for each byte and one for the end is enough.
+pub(crate) fn read_fields(rest: Rest, count: usize, marks: bool, units: &mut [u16]) -> Fields
+    ensures { Gathers rest.entry.line.now (start_at rest.entry.from count) marks units.old units.new result }
 {
-    let mut f = from;
-    for _ in 0..=s.len() {
+    let line = rest.line;
+    let mut f = Fields::start(rest.from, count);
+    for _ in 0..=line.len() {
         if f.end != End::More {
             return f;
         }
-        f = f.with_field(read_field(s, f.at), marks, units);
+        f = f.with_field(read_field(Rest { line, from: f.at }), marks, units);
     }
     f
 }

@@ -11,7 +11,7 @@ pub enum Piece {
     Pair { key: u32, value: u32 },
 }
 
-// A whole word as a number below 2 to the 32nd, its digits below `base`.
+// A whole word as a number below 2 to the 32nd, its digits below `base`. A digit is told in base 16 first, since `to_digit` takes no base of 1.
 pub fn read_number(w: &[u8], base: u32) -> Option<u32>
     requires base_nonzero { 0 < base }
     requires base_bound { base ≤ 16 }

@@ -1,4 +1,4 @@
-// Bytes written behind those that lie in a lent buffer already.
+// Bytes written behind those that lie in a lent buffer already. Their number goes beside the buffer, since `Wrote` tells of the whole of it.
 ghost use Rattle.std.specs.Prelude.{◌≡◌, ◌+◌, ◌<◌, ◌≤◌, length};
 ghost use Rattle.words.specs.Show.{Wrote, decimal_text, hex_digit, unit_text, pair_text, attrs_text};
 

@@ -41,18 +41,25 @@ pub fn span(s: &[u8], from: usize, class: Class) -> usize
     s.len()
 }
 
+// What is left of a line: its bytes from one of them on.
+#[derive(Clone, Copy)]
+pub struct Rest<'a> {
+    pub line: &'a [u8],
+    pub from: usize,
+    pub ghost within: { from ≤ length line.now },
+}
+
 #[derive(Clone, Copy)]
 pub struct Word {
     pub start: usize,
     pub end: usize,
 }
 
-// The first word at or after `from`; an empty one at the end.
-pub fn next_word(s: &[u8], from: usize) -> Word
-    requires { from ≤ length s.now }
-    ensures { WordIs s.now from result }
+// The first word of what is left; an empty one at the end.
+pub fn next_word(rest: Rest) -> Word
+    ensures { WordIs rest.entry.line.now rest.entry.from result }
 {
-    let start = span(s, from, Class::Space);
-    let end = span(s, start, Class::Word);
+    let start = span(rest.line, rest.from, Class::Space);
+    let end = span(rest.line, start, Class::Word);
     Word { start, end }
 }

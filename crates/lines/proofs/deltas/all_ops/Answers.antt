@@ -17,5 +17,5 @@ loop-preserved c = let z : at_op c.loop.d.end ≡ true = grind (arith, common_st
 pub returns-else-ne : goal.returns-else-ne
 returns-else-ne c =
     let z : at_op c.loop.d.end ≡ true = grind (arith, common_steps) in
-    let last : length c.args.s.now < c.loop.counter + 1 = omega arith in
+    let last : length c.args.rest.line.now < c.loop.counter + 1 = omega arith in
     ordering-done (ordering-step c.loop.invariant c.loop-test.true z c.one_op-d.ensures) last

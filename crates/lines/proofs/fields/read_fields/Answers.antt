@@ -17,5 +17,5 @@ loop-preserved c = let z : more c.loop.f.end ≡ true = grind (arith, common_ste
 pub returns-else-ne : goal.returns-else-ne
 returns-else-ne c =
     let z : more c.loop.f.end ≡ true = grind (arith, common_steps) in
-    let last : length c.args.s.now < c.loop.counter + 1 = omega arith in
+    let last : length c.args.rest.line.now < c.loop.counter + 1 = omega arith in
     gathering-done (gathering-step c.loop.invariant c.loop-test.true z c.read_field.ensures c.with_field-f.ensures) last
