@@ -42,6 +42,7 @@ fn value_entry(h: TableHead, table: &[u8], v: u32) -> Option<(Kind, &[u8])>
 }
 
 // The bytes of a name where they lie: no byte for a number that is not given out, and no name has none.
+#[tactic(auto, unfolding(crate::specs::Show::name_of))]
 pub fn name_bytes(h: TableHead, table: &[u8], n: u32) -> &[u8]
     ensures { result.now ≡ name_of h table.now n }
 {
@@ -51,6 +52,7 @@ pub fn name_bytes(h: TableHead, table: &[u8], n: u32) -> &[u8]
     }
 }
 
+#[tactic(auto, unfolding(crate::specs::Show::shown_of))]
 pub fn value_at(h: TableHead, table: &[u8], v: u32) -> Option<Shown>
     ensures { result ≡ shown_of h table.now v }
 {
@@ -63,6 +65,7 @@ pub fn value_at(h: TableHead, table: &[u8], v: u32) -> Option<Shown>
 }
 
 // The bytes of a string value where they lie: no byte for a number that is not given out, and for a value that is no string.
+#[tactic(auto, unfolding(crate::specs::Show::string_of))]
 pub fn string_bytes(h: TableHead, table: &[u8], v: u32) -> &[u8]
     ensures { result.now ≡ string_of h table.now v }
 {

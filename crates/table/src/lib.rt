@@ -96,7 +96,10 @@ impl TableHead {
 fn in_order(h: TableHead, slots: &[u8; BYTES]) -> bool
     ensures { result ≡ sound_of h slots.now }
 {
-    shelf_sound(slots, 0, h.names as usize, 16) && shelf_sound(slots, 16, h.values as usize, 255)
+    let names = h.names as usize;
+    let values = h.values as usize;
+    shelf_sound(slots, 0, names, TableHead::NAMES)
+        && shelf_sound(slots, TableHead::NAMES, values, TableHead::VALUES)
 }
 
 // The slots of a sound table.

@@ -1,6 +1,5 @@
 -- `lookup::name_bytes` meets its contract. Assumes nothing.
 use native.Mathlib.Omega.{arith}
-use Rattle.lookup.specs.Show.{name_of}
 use Rattle.lookup.proofs.Numbers.{given-name}
 use Rattle.lookup.proofs.name_bytes.Goals as goal
 
@@ -9,11 +8,3 @@ content-requires c =
     let given = given-name _ _ _ c.in-Some.ensures.0 in
     let few = given.0.of-names.few in
     omega arith
-
-pub returns-in-Some : goal.returns-in-Some
-unfolding name_of
-returns-in-Some c = rw (c.in-Some.ensures.0, ← c.in-Some.ensures.1) c.content.ensures
-
-pub returns-in-None : goal.returns-in-None
-unfolding name_of
-returns-in-None c = rw c.in-None.ensures

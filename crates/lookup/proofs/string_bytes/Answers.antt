@@ -1,13 +1,8 @@
 -- `lookup::string_bytes` meets its contract. Assumes nothing.
 use mathlib.Core.Path.{sym, ap, ◌∙◌}
 use Rattle.entries.specs.Kind.{byte_of}
-use Rattle.lookup.specs.Show.{string_of}
 use Rattle.lookup.proofs.Numbers.{string_shown, no_string}
 use Rattle.lookup.proofs.string_bytes.Goals as goal
-
-pub returns-in_default : goal.returns-in_default
-unfolding string_of
-returns-in_default c = rw c.in_default.ensures
 
 pub returns-in-String : goal.returns-in-String
 returns-in-String c =

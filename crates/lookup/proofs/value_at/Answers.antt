@@ -7,13 +7,8 @@ use mir.Val.{SFits}
 use mir.Facts.{to_z-of_z}
 use Rattle.std.proofs.lemmas.Result.{MatchResult-at_ok}
 use Rattle.entries.specs.Kind.{byte_of}
-use Rattle.lookup.specs.Show.{shown_of}
 use Rattle.lookup.proofs.Numbers.{bool_shown, int_shown, other_shown, one_byte, eight_bytes}
 use Rattle.lookup.proofs.value_at.Goals as goal
-
-pub returns-in_err-kind : goal.returns-in_err-kind
-unfolding shown_of
-returns-in_err-kind c = rw (c.from_residual.ensures, c.in_err-kind.ensures)
 
 pub bounds-content-0 : goal.bounds-content-0
 bounds-content-0 c =

@@ -1,13 +1,8 @@
 -- `lookup::value_entry` meets its contract. Assumes nothing.
 use native.Mathlib.Omega.{arith}
-use Rattle.lookup.specs.Show.{given_value}
 use Rattle.table.proofs.Tables.{sound-parts}
 use Rattle.lookup.proofs.Numbers.{number-given, kind_back, has_kind}
 use Rattle.lookup.proofs.value_entry.Goals as goal
-
-pub returns-in_err-slots : goal.returns-in_err-slots
-unfolding given_value
-returns-in_err-slots c = rw (c.from_residual.ensures, c.in_err-slots.ensures)
 
 pub returns-in_err-kind : goal.returns-in_err-kind
 returns-in_err-kind c =
