@@ -3,11 +3,9 @@ use Prim.Native.Nat.{ℕ, zero, suc, ◌+◌, ◌*◌, ◌/◌, ◌%◌, ◌^◌
 use native.Mathlib.Nat.{pow-suc, one-le-pow}
 use native.Mathlib.Omega.{arith}
 use mathlib.Core.Path.{◌≡◌, refl, ap}
-use mathlib.Core.Bool.{Bool, true, false, cond}
 use mathlib.Core.List.{List, [], ◌∷◌}
 use lib.ListN.{length, get_or}
 use mir.Syntax.{w64}
-use mir.Val.{bool_byte}
 use Rattle.std.specs.Int.{to_le_bytes, from_le_bytes}
 use Rattle.entries.specs.Number.{low_bytes, number_of}
 
@@ -37,10 +35,6 @@ pub number_is : (l : List ℕ) → length l ≡ 8 → from_le_bytes w64 l ≡ nu
 unfolding number_of
 number_is (a ∷ b ∷ c ∷ d ∷ e ∷ f ∷ g ∷ h ∷ []) n = omega arith
 number_is _ n = omega arith
-
-pub bool-byte : (b : Bool) → bool_byte b ≡ cond b 1 0
-bool-byte true = refl
-bool-byte false = refl
 
 -- ---- there and back
 pub number-low : (n u : ℕ) → u < 256 ^ n → number_of (low_bytes n u) ≡ u

@@ -1,8 +1,8 @@
 // The kinds of entries. A kind's number is the byte that stands for it in a slot.
 ghost use Rattle.std.specs.Prelude.{◌≡◌};
-ghost use Rattle.entries.specs.Kind.{kind_in};
+ghost use Rattle.entries.specs.Kind.{byte_of, kind_in};
 
-#[derive(Clone, Copy, PartialEq, Eq)]
+#[derive(Clone, Copy)]
 pub enum Kind {
     Name = 0,
     Bool = 1,
@@ -22,5 +22,13 @@ impl Kind {
             3 => Some(Kind::String),
             _ => None,
         }
+    }
+}
+
+impl From<Kind> for u8 {
+    ghost from_gives = { λ kind byte. byte ≡ byte_of kind };
+
+    fn from(kind: Kind) -> u8 {
+        kind as u8
     }
 }

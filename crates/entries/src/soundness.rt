@@ -26,7 +26,7 @@ fn slot_fits(table: &[u8; BYTES], slot: usize) -> bool
 {
     let at = slot * SLOT;
     let kind = table[at + 1];
-    let is_name = kind == Kind::Name as u8;
+    let is_name = kind == u8::from(Kind::Name);
     is_name == (slot < 16) && fits(kind, table[at], table[at + 2])
 }
 

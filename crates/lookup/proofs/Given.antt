@@ -9,12 +9,13 @@ use mir.Val.{SFits, of_z}
 use mir.Facts.{to_z-of_z, Fits-of_z}
 use borrow.Author.Tests.{lt-ltb, le-leb, ne_eqb}
 use Rattle.entries.specs.Entry.{kind_at, content_at, entry_at, seek}
+use Rattle.std.specs.Prelude.{Some}
 use Rattle.entries.specs.Number.{number_of}
 use Rattle.table.specs.declared.TableHead.{TableHead}
 use Rattle.table.specs.Value.{Value, bool, int, string, kind_of, content_of}
 use Rattle.table.specs.Ask.{name_shelf, value_shelf, shelf_of, ask_of, ask_name, ask_value}
 use Rattle.lookup.specs.Show.{value_of, bytes_of, case_of, given_name, given_value, value_at, shown_of, name_of, string_of}
-use Rattle.entries.proofs.Bits.{number-low}
+use Rattle.entries.proofs.Bytes.{number-low}
 use Rattle.entries.proofs.Entries.{length-entries}
 use Rattle.entries.proofs.Seeks.{seek-at}
 use Rattle.table.proofs.Tables.{Sound, sound-whole}
@@ -106,7 +107,7 @@ module _ (h : TableHead) (m : List ℕ) (v : Value) (p : Sound h m) (q : (ask_va
       ap₂ value_of (entry-kind h m (kind_of v) (content_of v) shape p q _ at) (entry-content h m (kind_of v) (content_of v) shape p q _ at) ∙ value-back v w
 
   -- and is shown under its number
-  pub value_read : Whole v → shown_of (ask_value h m v).asked.head (ask_value h m v).bytes (ask_value h m v).asked.number ≡ case_of v
+  pub value_read : Whole v → shown_of (ask_value h m v).asked.head (ask_value h m v).bytes (ask_value h m v).asked.number ≡ Some (case_of v)
   unfolding shown_of
   value_read w = rw (value-slot.0, value_there w)
 

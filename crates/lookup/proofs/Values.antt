@@ -3,55 +3,30 @@ use Prim.Native.Nat.{ℕ, zero, suc, ◌+◌, ◌-◌, ◌*◌, ◌<◌, ◌≤�
 use native.Mathlib.Nat.{add-zero, zero-add}
 use native.Mathlib.Omega.{arith}
 use mathlib.Core.Path.{◌≡◌, refl, sym, ap, ap₂, ◌∙◌}
-use mathlib.Core.Logic.{◌⊎◌, inl, inr}
-use mathlib.Core.Bool.{Bool, true, false, cond}
+use mathlib.Core.Logic.{inl, inr}
+use mathlib.Core.Bool.{true}
 use mathlib.Core.List.{List, [], ◌∷◌}
-use lib.ListN.{length, get_or, take, drop, length-take, length-drop}
+use lib.ListN.{length, get_or, take, drop}
 use lib.Seq.{get_or-take, get_or-drop}
-use lib.Dec.{eqb, leb}
+use lib.Dec.{eqb}
 use mir.Syntax.{w64}
 use mir.Val.{Fits}
 use mir.Facts.{of_z-to_z}
-use borrow.Author.Tests.{eqb-true, leb-true, lt-ltb, le-ltb}
+use borrow.Author.Tests.{eqb-true, lt-ltb}
 use Rattle.entries.specs.Entry.{length_at, kind_at, content_at, entry_at}
 use Rattle.entries.specs.Number.{low_bytes, number_of}
-use Rattle.entries.specs.Order.{fits, fits_at}
+use Rattle.entries.specs.Order.{fits_at}
 use Rattle.table.specs.declared.TableHead.{TableHead}
 use Rattle.table.specs.Value.{Value, bool, int, string, kind_of, content_of}
 use Rattle.lookup.specs.Show.{value_of, bytes_of, case_of, given_name, given_value, value_at, shown_of, name_of, string_of}
-use Rattle.entries.proofs.Bits.{bytes_below, low-number}
+use Rattle.entries.proofs.Bytes.{bytes_below, low-number}
 use Rattle.table.proofs.Tables.{both}
-use Rattle.lookup.proofs.Numbers.{Given, given-value, given-name, fits-at}
+use Rattle.lookup.proofs.Numbers.{Given, given-value, given-name, fits-at, Allowed, allowed_short, content-whole, allowed_at}
 use Rattle.table.proofs.Model.{one_number}
 
 -- lent memory holds bytes: its type says so, and soundness does not look at it. Were 256 a byte, 256 0 and 0 1 would be one integer
 abbrev pub Bytes : List ℕ → Type 0
 Bytes l = (i : ℕ) → get_or l i 0 < 256
-
--- kind, length and first byte of a value in a slot that is in order
-abbrev pub Allowed : ℕ → ℕ → ℕ → Type 0
-Allowed k n b = ((k ≡ 1) × ((n ≡ 1) × (b ≤ 1))) ⊎ (((k ≡ 2) × (n ≡ 8)) ⊎ ((k ≡ 3) × (n ≤ 32)))
-
-pub allowed : (k n b : ℕ) → eqb k 0 ≡ false → fits k n b ≡ true → Allowed k n b
-unfolding fits
-allowed k n b z f = is-bool (eqb k 1) refl (rw z at f)
-  where
-    is-string : (t : Bool) → eqb k 3 ≡ t → cond t (leb n 32) false ≡ true → Allowed k n b
-    is-string true e g = inr (inr (eqb-true k 3 e, leb-true n 32 g))
-    is-string false e g = absurd (let y : ◌≡◌ {A = ℕ} 0 1 = cc in omega arith)
-
-    is-int : (t : Bool) → eqb k 2 ≡ t → cond t (eqb n 8) (cond (eqb k 3) (leb n 32) false) ≡ true → Allowed k n b
-    is-int true e g = inr (inl (eqb-true k 2 e, eqb-true n 8 g))
-    is-int false e g = is-string (eqb k 3) refl g
-
-    is-bool : (t : Bool) → eqb k 1 ≡ t → cond t (cond (eqb n 1) (leb b 1) false) (cond (eqb k 2) (eqb n 8) (cond (eqb k 3) (leb n 32) false)) ≡ true → Allowed k n b
-    is-bool true e g = let p = both (eqb n 1) _ g in inl (eqb-true k 1 e, (eqb-true n 1 p.0, leb-true b 1 p.1))
-    is-bool false e g = is-int (eqb k 2) refl g
-
-allowed_short : {k n b : ℕ} → Allowed k n b → n ≤ 32
-allowed_short (inl (ek, (en, eb))) = omega arith
-allowed_short (inr (inl (ek, en))) = omega arith
-allowed_short (inr (inr (ek, en))) = en
 
 -- ---- an entry is that of the value which is read off it
 one_byte : (c : List ℕ) → length c ≡ 1 → get_or c 0 0 ≤ 1 → content_of (value_of 1 c) ≡ c
@@ -89,30 +64,17 @@ module _ (m : List ℕ) (s : ℕ) where
   unfolding content_at
   content-bytes b = take-bytes (min (length_at m s) 32) (drop (s * 34 + 2) m) (λ i. rw get_or-drop (b (s * 34 + 2 + i)))
 
-  content-whole : length m ≡ 9214 → s < 271 → length_at m s ≤ 32 → length (content_at m s) ≡ length_at m s
-  unfolding content_at
-  content-whole e h l = rw (length-take, length-drop) (omega arith)
-
   content-first : 0 < length_at m s → get_or m (s * 34 + 2) 0 ≡ get_or (content_at m s) 0 0
   unfolding content_at
   content-first h =
       sym (get_or-take (min (length_at m s) 32) (drop (s * 34 + 2) m) 0 0 (omega arith) ∙ get_or-drop (s * 34 + 2) m 0 0 ∙ ap (λ (i : ℕ). get_or m i 0) (add-zero (s * 34 + 2)))
 
-  allowed_at : 16 ≤ s → fits_at m s ≡ true → Allowed (kind_at m s) (length_at m s) (get_or m (s * 34 + 2) 0)
-  unfolding fits_at
-  allowed_at h f = go (eqb (kind_at m s) 0) refl (rw (le-ltb s 16 h) at f)
-    where
-      go : (t : Bool) → eqb (kind_at m s) 0 ≡ t → cond t false (fits (kind_at m s) (length_at m s) (get_or m (s * 34 + 2) 0)) ≡ true
-          → Allowed (kind_at m s) (length_at m s) (get_or m (s * 34 + 2) 0)
-      go true e g = absurd (let y : ◌≡◌ {A = ℕ} 0 1 = cc in omega arith)
-      go false e g = allowed (kind_at m s) (length_at m s) (get_or m (s * 34 + 2) 0) e g
-
   pub slot-back : Bytes m → length m ≡ 9214 → 16 ≤ s → s < 271 → fits_at m s ≡ true
       → entry_at m s ≡ kind_of (value_of (kind_at m s) (content_at m s)) ∷ content_of (value_of (kind_at m s) (content_at m s))
   unfolding entry_at
   slot-back b e h l f =
-      let a = allowed_at h f in
-      let n = content-whole e l (allowed_short a) in
+      let a = allowed_at m s h f in
+      let n = content-whole m s e l (allowed_short a) in
       let back = entry-back (kind_at m s) (content_at m s) (get_or m (s * 34 + 2) 0) (content-bytes b) (λ p. content-first (rw n at p)) (rw n a) in
       sym (ap₂ (λ (k : ℕ) (c : List ℕ). k ∷ c) back.0 back.1)
 
@@ -177,4 +139,7 @@ shown-value (string x) (string y) e f = cc
 pub shown-apart : (h : TableHead) (m : List ℕ) → Bytes m → (i j : ℕ) → given_value h m i ≡ true → given_value h m j ≡ true
     → shown_of h m i ≡ shown_of h m j → string_of h m i ≡ string_of h m j → i ≡ j
 unfolding shown_of string_of
-shown-apart h m b i j gi gj e f = values-apart h m b i j gi gj (shown-value (value_at m i) (value_at m j) (rw (gi, gj) at e) (rw (gi, gj) at f))
+shown-apart h m b i j gi gj e f =
+    let some = rw (gi, gj) at e in
+    let case : case_of (value_at m i) ≡ case_of (value_at m j) = cc in
+    values-apart h m b i j gi gj (shown-value (value_at m i) (value_at m j) case (rw (gi, gj) at f))

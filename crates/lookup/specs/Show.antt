@@ -1,10 +1,10 @@
 -- What is read back.
-use Rattle.std.specs.Prelude.{ℕ, ◌+◌, Bool, false, cond, List, [], eqb, ltb, leb}
+use Rattle.std.specs.Prelude.{ℕ, ◌+◌, Bool, false, cond, List, [], eqb, ltb, leb, Option, Some, None}
 use Rattle.std.specs.Int.{w64}
 use Rattle.std.proofs.Common.{to_z}
 use Rattle.table.specs.declared.TableHead.{TableHead}
 use Rattle.lookup.specs.declared.Shown.{Shown}
-use Rattle.lookup.specs.declared.Shown.TheVariants.{Nothing, Bool as IsBool, Int as IsInt, String as IsString}
+use Rattle.lookup.specs.declared.Shown.TheVariants.{Bool as IsBool, Int as IsInt, String as IsString}
 use Rattle.entries.specs.Entry.{kind_at, content_at}
 use Rattle.entries.specs.Number.{number_of}
 use Rattle.table.specs.Value.{Value, bool, int, string}
@@ -39,8 +39,8 @@ given_value h m v = cond (sound_of h m) (cond (eqb v 0) false (leb v h.values)) 
 unfoldable pub value_at : List ℕ → ℕ → Value
 value_at m v = value_of (kind_at m (15 + v)) (content_at m (15 + v))
 
-unfoldable pub shown_of : TableHead → List ℕ → ℕ → Shown
-shown_of h m v = cond (given_value h m v) (case_of (value_at m v)) Nothing
+unfoldable pub shown_of : TableHead → List ℕ → ℕ → Option Shown
+shown_of h m v = cond (given_value h m v) (Some (case_of (value_at m v))) None
 
 -- The bytes of a name; no byte, where the number is not given out.
 unfoldable pub name_of : TableHead → List ℕ → ℕ → List ℕ

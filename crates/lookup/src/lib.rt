@@ -1,84 +1,79 @@
 // What numbers stand for, read back from the lent bytes.
 #![tactic(auto)]
 
-ghost use Rattle.std.specs.Prelude.{◌≡◌};
+ghost use Rattle.std.specs.Prelude.{◌≡◌, ◌+◌, true, false, MatchOption};
+ghost use Rattle.entries.specs.Entry.{kind_at, content_at};
+ghost use Rattle.entries.specs.Kind.{byte_of};
 ghost use Rattle.lookup.specs.Show.{given_name, given_value, shown_of, name_of, string_of};
 
-use entries::integers::{integer_of, number_of};
-use entries::slots::{content, kind_at, wide};
-use table::{BOOL, INT, TableHead, sound};
+use entries::kinds::Kind;
+use entries::slots::{BYTES, content, kind_at};
+use table::{TableHead, sound_slots};
 
 // What a value's number stands for. The bytes of a string are shown by `string_bytes`.
 #[derive(Clone, Copy)]
 pub enum Shown {
-    Nothing,
     Bool(bool),
     Int(i64),
     String,
 }
 
-fn given_name(h: TableHead, table: &[u8], n: u32) -> bool
-    ensures { result ≡ given_name h table.now n }
+// The slots, where a name's number is given out.
+#[tactic(auto, unfolding(crate::specs::Show::given_name))]
+fn name_slots(h: TableHead, table: &[u8], n: u32) -> Option<&[u8; BYTES]>
+    ensures { MatchOption result (given_name h table.now n ≡ false) (λ slots. (given_name h table.now n ≡ true) × (slots.now ≡ table.now)) }
 {
-    if !sound(h, table) {
-        return false;
-    }
-    n < h.names
+    let slots = sound_slots(h, table)?;
+    if n < h.names { Some(slots) } else { None }
 }
 
-fn given_value(h: TableHead, table: &[u8], v: u32) -> bool
-    ensures { result ≡ given_value h table.now v }
+// The kind and content of a value, where its number is given out.
+#[tactic(auto, unfolding(crate::specs::Show::given_value))]
+fn value_entry(h: TableHead, table: &[u8], v: u32) -> Option<(Kind, &[u8])>
+    ensures { MatchOption result (given_value h table.now v ≡ false) (λ e. (given_value h table.now v ≡ true) × (byte_of e.0 ≡ kind_at table.now (15 + v)) × (e.1.now ≡ content_at table.now (15 + v))) }
 {
-    if !sound(h, table) {
-        return false;
+    let slots = sound_slots(h, table)?;
+    if v == 0 || v > h.values {
+        return None;
     }
-    if v == 0 {
-        return false;
-    }
-    v <= h.values
+    let slot = 15 + v as usize;
+    let kind = Kind::of(kind_at(slots, slot))?;
+    Some((kind, content(slots, slot)))
 }
 
 // The bytes of a name where they lie: no byte for a number that is not given out, and no name has none.
+#[tactic(auto, unfolding(crate::specs::Show::name_of))]
 pub fn name_bytes(h: TableHead, table: &[u8], n: u32) -> &[u8]
     ensures { result.now ≡ name_of h table.now n }
 {
-    if !given_name(h, table, n) {
-        return &table[..0];
+    match name_slots(h, table, n) {
+        Some(slots) => content(slots, n as usize),
+        None => &[],
     }
-    content(table, wide(n))
 }
 
-pub fn value_at(h: TableHead, table: &[u8], v: u32) -> Shown
+#[tactic(auto, unfolding(crate::specs::Show::shown_of))]
+pub fn value_at(h: TableHead, table: &[u8], v: u32) -> Option<Shown>
     ensures { result ≡ shown_of h table.now v }
 {
-    if !given_value(h, table, v) {
-        return Shown::Nothing;
+    let (kind, content) = value_entry(h, table, v)?;
+    match kind {
+        Kind::Bool => Some(Shown::Bool(content[0] == 1)),
+        Kind::Int => Some(Shown::Int(i64::from_le_bytes(content.try_into().unwrap()))),
+        _ => Some(Shown::String),
     }
-    let slot = 15 + wide(v);
-    let kind = kind_at(table, slot);
-    if kind == BOOL {
-        return Shown::Bool(number_of(content(table, slot)) == 1);
-    }
-    if kind == INT {
-        return Shown::Int(integer_of(number_of(content(table, slot))));
-    }
-    Shown::String
 }
 
 // The bytes of a string value where they lie: no byte for a number that is not given out, and for a value that is no string.
+#[tactic(auto, unfolding(crate::specs::Show::string_of))]
 pub fn string_bytes(h: TableHead, table: &[u8], v: u32) -> &[u8]
     ensures { result.now ≡ string_of h table.now v }
 {
-    if !given_value(h, table, v) {
-        return &table[..0];
+    let Some((kind, content)) = value_entry(h, table, v) else {
+        return &[];
+    };
+    match kind {
+        Kind::String => content,
+        _ => &[],
     }
-    let slot = 15 + wide(v);
-    let kind = kind_at(table, slot);
-    if kind == BOOL {
-        return &table[..0];
-    }
-    if kind == INT {
-        return &table[..0];
-    }
-    content(table, slot)
 }

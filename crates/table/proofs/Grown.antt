@@ -15,7 +15,7 @@ use Rattle.table.specs.Ask.{too_long}
 use Rattle.entries.proofs.Entries.{length-entries}
 use Rattle.entries.proofs.Seeks.{distinct_more}
 use Rattle.entries.proofs.Puts.{put-size, put-kind, put_first, put-entry, put_entries, put_fit, entries-more, fit-more}
-use Rattle.entries.proofs.Bits.{length-low}
+use Rattle.entries.proofs.Bytes.{length-low}
 use Rattle.table.proofs.Tables.{Shelved}
 use Rattle.table.proofs.Asks.{New, fine_short}
 

@@ -12,8 +12,8 @@ use borrow.Author.Tests.{lt-ltb, le-ltb}
 use Rattle.entries.specs.Entry.{entry_at, entries, seek, put_at}
 use Rattle.table.specs.declared.TableHead.{TableHead}
 use Rattle.table.specs.declared.Shelf.{Shelf}
-use Rattle.table.specs.declared.Asking.{Asking}
-use Rattle.table.specs.declared.Asking.TheVariants.{Refused, Known, Fresh}
+use Rattle.std.specs.Prelude.{Option, Some, None, Result, Ok, Err}
+use Rattle.refusal.specs.declared.Refusal.{Refusal}
 use Rattle.table.specs.Ask.{name_shelf, value_shelf, shelf_of, one_name, one_value, grown_of, too_long, asking_of, Outcome, outcome, ask_of}
 use Rattle.entries.proofs.Entries.{length-entries}
 use Rattle.entries.proofs.Seeks.{seek_own, seek-more}
@@ -64,7 +64,7 @@ module _ (h : TableHead) (m : List ℕ) (k : ℕ) (c : List ℕ) (shape : Shape 
   ask : Outcome
   ask = ask_of h m k c
 
-  decided : Asking
+  decided : Result (Option ℕ) Refusal
   decided = asking_of (shelf_of h k).most (kindred h m k) k c
 
   is-outcome : ask ≡ outcome h (shelf_of h k) m k c decided
@@ -113,10 +113,10 @@ module _ (h : TableHead) (m : List ℕ) (k : ℕ) (c : List ℕ) (shape : Shape 
   unfolding ask decided outcome shelf_of grown_of
   ask-sound = rw is-outcome (go decided refl)
     where
-      go : (a : Asking) → a ≡ decided → Sound (outcome h (shelf_of h k) m k c a).asked.head (outcome h (shelf_of h k) m k c a).bytes
-      go (Refused n) e = p
-      go (Known i) e = p
-      go Fresh e = grown-sound (eqb k 0) refl (shelf_of h k) refl (grown_of h k) refl (fresh-facts _ m _ _ k c Fresh e refl)
+      go : (a : Result (Option ℕ) Refusal) → a ≡ decided → Sound (outcome h (shelf_of h k) m k c a).asked.head (outcome h (shelf_of h k) m k c a).bytes
+      go (Err r) e = p
+      go (Ok (Some i)) e = p
+      go (Ok None) e = grown-sound (eqb k 0) refl (shelf_of h k) refl (grown_of h k) refl (fresh-facts _ m _ _ k c (Ok None) e refl)
 
   grown-kindred : New (shelf_of h k).most m (shelf_of h k).from (shelf_of h k).count k c
       → kindred (grown_of h k) (put_at m ((shelf_of h k).from + (shelf_of h k).count) k c) k ≡ kindred h m k ++ (k ∷ c) ∷ []
@@ -139,13 +139,13 @@ module _ (h : TableHead) (m : List ℕ) (k : ℕ) (c : List ℕ) (shape : Shape 
   unfolding ask decided outcome
   ask-placed = rw is-outcome (go decided refl)
     where
-      go : (a : Asking) → a ≡ decided → (outcome h (shelf_of h k) m k c a).asked.refusal ≡ 0 → Placed h k c (outcome h (shelf_of h k) m k c a)
-      go (Refused n) e q = absurd (omega (arith, refused-number _ m _ _ k c (Refused n) e n refl))
-      go (Known i) e q =
-          let is = known_facts _ m _ _ k c (Known i) e i refl in
+      go : (a : Result (Option ℕ) Refusal) → a ≡ decided → (outcome h (shelf_of h k) m k c a).asked.refusal ≡ 0 → Placed h k c (outcome h (shelf_of h k) m k c a)
+      go (Err r) e q = absurd (omega (arith, refused-number r))
+      go (Ok (Some i)) e q =
+          let is = known_facts _ m _ _ k c (Ok (Some i)) e i refl in
           record { fine = is.fine; inside = rw is.there is.below; number = rw is.there }
-      go Fresh e q =
-          let new = fresh-facts _ m _ _ k c Fresh e refl in
+      go (Ok None) e q =
+          let new = fresh-facts _ m _ _ k c (Ok None) e refl in
           let all = grown-kindred new in
           let found : seek (k ∷ c) (kindred h m k ++ (k ∷ c) ∷ []) ≡ (shelf_of h k).count =
           seek-more (k ∷ c) (kindred h m k) (new.new ∙ sym (length-entries m _ _)) ∙ length-entries m _ _ in
@@ -172,10 +172,10 @@ module _ (h : TableHead) (m : List ℕ) (k : ℕ) (c : List ℕ) (shape : Shape 
   unfolding ask decided outcome
   ask-keeps s used = rw is-outcome (go decided refl)
     where
-      go : (a : Asking) → a ≡ decided → entry_at (outcome h (shelf_of h k) m k c a).bytes s ≡ entry_at m s
-      go (Refused n) e = refl
-      go (Known i) e = refl
-      go Fresh e = kept_fresh s used (fresh-facts _ m _ _ k c Fresh e refl)
+      go : (a : Result (Option ℕ) Refusal) → a ≡ decided → entry_at (outcome h (shelf_of h k) m k c a).bytes s ≡ entry_at m s
+      go (Err r) e = refl
+      go (Ok (Some i)) e = refl
+      go (Ok None) e = kept_fresh s used (fresh-facts _ m _ _ k c (Ok None) e refl)
 
 -- ---- two numbers of a sound table are the same exactly where their entries are
 pub entries_at : (m : List ℕ) (s n i : ℕ) → i < n → get_or (entries m s n) i [] ≡ entry_at m (s + i)

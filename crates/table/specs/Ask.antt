@@ -1,10 +1,12 @@
 -- What an asking answers, and what it writes.
-use Rattle.std.specs.Prelude.{ℕ, ◌+◌, ◌≡◌, Bool, true, false, cond, List, ◌∷◌, length, eqb, ltb}
+use Rattle.std.specs.Prelude.{ℕ, ◌+◌, ◌≡◌, Bool, true, false, cond, List, ◌∷◌, length, eqb, ltb, Option, Some, None, Result, Ok, Err}
+use Rattle.std.specs.Result.{result_unwrap_or}
+use Rattle.refusal.specs.declared.Refusal.{Refusal}
+use Rattle.refusal.specs.declared.Refusal.TheVariants.{Full, Long, Broken}
+use Rattle.refusal.specs.Numbers.{number_of, refusal_in}
 use Rattle.table.specs.declared.TableHead.{TableHead}
-use Rattle.table.specs.declared.Asked.{Asked}
+use Rattle.table.specs.declared.Asked.{Asked as Answer}
 use Rattle.table.specs.declared.Shelf.{Shelf}
-use Rattle.table.specs.declared.Asking.{Asking}
-use Rattle.table.specs.declared.Asking.TheVariants.{Refused, Known, Fresh}
 use Rattle.entries.specs.Entry.{entries, seek, put_at}
 use Rattle.table.specs.Value.{Value, kind_of, content_of}
 use Rattle.table.specs.Sound.{sound_of}
@@ -34,12 +36,27 @@ grown_of h k = cond (eqb k 0) (one_name h) (one_value h)
 unfoldable pub too_long : ℕ → ℕ → Bool
 too_long k n = cond (ltb 32 n) true (cond (eqb k 0) (eqb n 0) false)
 
--- LONG (6) before all; a known entry is where it was first asked for; a new one needs a number that is left, else FULL (5).
-unfoldable pub asking_of : ℕ → List (List ℕ) → ℕ → List ℕ → Asking
+-- LONG before all; a known entry is where it was first asked for; a new one, which is nowhere yet, needs a number that is left, else FULL.
+unfoldable pub asking_of : ℕ → List (List ℕ) → ℕ → List ℕ → Result (Option ℕ) Refusal
 asking_of most es k c =
-    cond (too_long k (length c)) (Refused 6)
-    (cond (ltb (seek (k ∷ c) es) (length es)) (Known (seek (k ∷ c) es))
-    (cond (ltb (length es) most) Fresh (Refused 5)))
+    cond (too_long k (length c)) (Err Long)
+    (cond (ltb (seek (k ∷ c) es) (length es)) (Ok (Some (seek (k ∷ c) es)))
+    (cond (ltb (length es) most) (Ok None) (Err Full)))
+
+-- What is answered: the refusal's number, 0 for none; the number that was asked for, 0 beside a refusal; and the head afterwards.
+pub record Asked : Type 0 where
+  pub refusal : ℕ
+  pub number : ℕ
+  pub head : TableHead
+
+-- The answer of a call that was given the head h.
+abbrev pub told : TableHead → Result Answer Refusal → Asked
+told h r =
+    record {
+      refusal = refusal_in r;
+      number = (result_unwrap_or r (record { number = 0; head = h })).number;
+      head = (result_unwrap_or r (record { number = 0; head = h })).head;
+    }
 
 pub record Outcome : Type 0 where
   pub asked : Asked
@@ -50,22 +67,22 @@ abbrev pub refused_with : ℕ → TableHead → List ℕ → Outcome
 refused_with n h m = record { asked = record { refusal = n; number = 0; head = h }; bytes = m }
 
 -- The number and the values of each case of an asking.
-unfoldable pub outcome : TableHead → Shelf → List ℕ → ℕ → List ℕ → Asking → Outcome
-outcome h s m k c (Refused n) = refused_with n h m
-outcome h s m k c (Known i) =
+unfoldable pub outcome : TableHead → Shelf → List ℕ → ℕ → List ℕ → Result (Option ℕ) Refusal → Outcome
+outcome h s m k c (Err r) = refused_with (number_of r) h m
+outcome h s m k c (Ok (Some i)) =
     record { asked = record { refusal = 0; number = s.first + i; head = h }; bytes = m }
-outcome h s m k c Fresh =
+outcome h s m k c (Ok None) =
     record {
       asked = record { refusal = 0; number = s.first + s.count; head = grown_of h k };
       bytes = put_at m (s.from + s.count) k c;
     }
 
--- An asking: BROKEN (9) for a table that is not sound, else what the entries of that kind say.
+-- An asking: BROKEN for a table that is not sound, else what the entries of that kind say.
 unfoldable pub ask_of : TableHead → List ℕ → ℕ → List ℕ → Outcome
 ask_of h m k c =
     cond (sound_of h m)
     (outcome h (shelf_of h k) m k c (asking_of (shelf_of h k).most (entries m (shelf_of h k).from (shelf_of h k).count) k c))
-    (refused_with 9 h m)
+    (refused_with (number_of Broken) h m)
 
 -- A name is of kind 0, a value of its own.
 abbrev pub ask_name : TableHead → List ℕ → List ℕ → Outcome

@@ -1,15 +1,17 @@
 // Names and values numbered in the order of first asking, in bytes that the caller lends.
 #![tactic(auto)]
 
-ghost use Rattle.std.specs.Prelude.{◌≡◌, ◌+◌, ◌<◌, ◌≤◌, length};
+ghost use Rattle.std.specs.Prelude.{◌≡◌, ◌+◌, ◌<◌, ◌≤◌, true, false, length, MatchOption};
 ghost use Rattle.entries.specs.Entry.{entries};
+ghost use Rattle.entries.specs.Kind.{byte_of};
 ghost use Rattle.table.specs.Value.{bool as bool_value, int as int_value, string as string_value};
 ghost use Rattle.table.specs.Sound.{fresh_head, sound_of};
-ghost use Rattle.table.specs.Ask.{shelf_of, grown_of, too_long, asking_of, ask_of, ask_name, ask_value, Gives};
+ghost use Rattle.table.specs.Ask.{shelf_of, grown_of, too_long, asking_of, ask_of, ask_name, ask_value, told, Gives};
 
-use entries::integers::{bits_of, bytes_of};
-use entries::slots::{find, put, wide};
+use entries::kinds::Kind;
+use entries::slots::{BYTES, find, put};
 use entries::soundness::shelf_sound;
+use refusal::Refusal;
 
 // How many names and values a table has; the entries are in the lent bytes.
 #[derive(Clone, Copy)]
@@ -18,10 +20,9 @@ pub struct TableHead {
     pub values: u32,
 }
 
-// A refusal number, or 0 with the number that was asked for and the head afterwards.
+// The number that was asked for, and the head afterwards.
 #[derive(Clone, Copy)]
 pub struct Asked {
-    pub refusal: u32,
     pub number: u32,
     pub head: TableHead,
 }
@@ -29,35 +30,20 @@ pub struct Asked {
 // Where the entries of a kind stand.
 #[derive(Clone, Copy)]
 pub(crate) struct Shelf {
-    pub from: u32,
-    pub count: u32,
-    pub most: u32,
-    pub first: u32,
+    pub from: usize,
+    pub count: usize,
+    pub most: usize,
+    pub first: usize,
 }
-
-#[derive(Clone, Copy)]
-pub(crate) enum Asking {
-    Refused(u32),
-    Known(u32),
-    Fresh,
-}
-
-const NAME: u8 = 0;
-
-pub const BOOL: u8 = 1;
-
-pub const INT: u8 = 2;
-
-const STRING: u8 = 3;
 
 impl TableHead {
-    pub const NAMES: u32 = 16;
+    pub const NAMES: usize = 16;
 
-    pub const VALUES: u32 = 255;
+    pub const VALUES: usize = 255;
 
     pub const LONGEST: usize = 32;
-    // 16 + 255 slots of 34 bytes.
-    pub const BYTES: usize = 9214;
+
+    pub const BYTES: usize = BYTES;
 
     pub fn fresh() -> TableHead
         ensures { result ≡ fresh_head }
@@ -68,152 +54,149 @@ impl TableHead {
         }
     }
 
-    fn shelf(self, kind: u8) -> Shelf
-        ensures { result ≡ shelf_of self kind }
+    #[tactic(auto, unfolding(crate::specs::Ask::shelf_of))]
+    fn shelf(self, kind: Kind) -> Shelf
+        ensures { result ≡ shelf_of self (byte_of kind) }
     {
-        if kind == NAME {
-            return Shelf {
+        match kind {
+            Kind::Name => Shelf {
                 from: 0,
-                count: self.names,
+                count: self.names as usize,
                 most: TableHead::NAMES,
                 first: 0,
-            };
-        }
-        Shelf {
-            from: TableHead::NAMES,
-            count: self.values,
-            most: TableHead::VALUES,
-            first: 1,
+            },
+            _ => Shelf {
+                from: TableHead::NAMES,
+                count: self.values as usize,
+                most: TableHead::VALUES,
+                first: 1,
+            },
         }
     }
 
-    fn grown(self, kind: u8) -> TableHead
+    #[tactic(auto, unfolding(crate::specs::Ask::grown_of))]
+    fn grown(self, kind: Kind) -> TableHead
         requires { (self.names ≤ 16) × (self.values ≤ 255) }
-        ensures { result ≡ grown_of self kind }
+        ensures { result ≡ grown_of self (byte_of kind) }
     {
-        if kind == NAME {
-            return TableHead {
+        match kind {
+            Kind::Name => TableHead {
                 names: self.names + 1,
-                values: self.values,
-            };
+                ..self
+            },
+            _ => TableHead {
+                values: self.values + 1,
+                ..self
+            },
         }
-        TableHead {
-            names: self.names,
-            values: self.values + 1,
-        }
+    }
+}
+
+#[tactic(auto, unfolding(crate::specs::Sound::sound_of))]
+fn in_order(h: TableHead, slots: &[u8; BYTES]) -> bool
+    ensures { result ≡ sound_of h slots.now }
+{
+    let names = h.names as usize;
+    let values = h.values as usize;
+    shelf_sound(slots, 0, names, TableHead::NAMES)
+        && shelf_sound(slots, TableHead::NAMES, values, TableHead::VALUES)
+}
+
+// The slots of a sound table.
+#[tactic(auto, unfolding(crate::specs::Sound::sound_of))]
+pub fn sound_slots(h: TableHead, table: &[u8]) -> Option<&[u8; BYTES]>
+    ensures { MatchOption result (sound_of h table.now ≡ false) (λ slots. (sound_of h table.now ≡ true) × (slots.now ≡ table.now)) }
+{
+    let slots = table.as_array()?;
+    if in_order(h, slots) {
+        Some(slots)
+    } else {
+        None
     }
 }
 
 pub fn sound(h: TableHead, table: &[u8]) -> bool
     ensures { result ≡ sound_of h table.now }
 {
-    if table.len() != TableHead::BYTES {
-        return false;
-    }
-    if !shelf_sound(table, 0, wide(h.names), 16) {
-        return false;
-    }
-    shelf_sound(table, 16, wide(h.values), 255)
+    sound_slots(h, table).is_some()
 }
 
-fn too_long(kind: u8, n: usize) -> bool
-    ensures { result ≡ too_long kind n }
+#[tactic(auto, unfolding(crate::specs::Ask::too_long))]
+fn too_long(kind: Kind, n: usize) -> bool
+    ensures { result ≡ too_long (byte_of kind) n }
 {
-    if n > TableHead::LONGEST {
-        return true;
+    match kind {
+        Kind::Name => n == 0 || n > TableHead::LONGEST,
+        _ => n > TableHead::LONGEST,
     }
-    if kind == NAME {
-        return n == 0;
-    }
-    false
 }
 
-fn narrow(n: usize) -> u32
-    requires { n < 271 }
-    ensures { result ≡ n }
-{
-    n as u32
-}
-
-// Whether an entry is refused, known or new among those of its kind.
-fn decide(table: &[u8], s: Shelf, kind: u8, bytes: &[u8]) -> Asking
-    requires { (s.from + s.count ≤ 271) × (length table.now ≡ 9214) }
-    ensures { result ≡ asking_of s.most (entries table.now s.from s.count) kind bytes.now }
+// Which of the entries of its kind an entry is, or none where it is new and a number is left for it.
+fn decide(slots: &[u8; BYTES], s: Shelf, kind: Kind, bytes: &[u8]) -> Result<Option<usize>, Refusal>
+    requires { s.from + s.count ≤ 271 }
+    ensures { result ≡ asking_of s.most (entries slots.now s.from s.count) (byte_of kind) bytes.now }
 {
     if too_long(kind, bytes.len()) {
-        return Asking::Refused(6);
+        return Err(Refusal::Long);
     }
-    let i = find(table, wide(s.from), wide(s.count), kind, bytes);
-    if i < wide(s.count) {
-        return Asking::Known(narrow(i));
+    match find(slots, s.from, s.count, u8::from(kind), bytes) {
+        Some(i) => Ok(Some(i)),
+        None if s.count < s.most => Ok(None),
+        None => Err(Refusal::Full),
     }
-    if s.count < s.most {
-        return Asking::Fresh;
-    }
-    Asking::Refused(5)
 }
 
 // The number of an entry, known or new.
-fn ask(h: TableHead, table: &mut [u8], kind: u8, bytes: &[u8]) -> Asked
-    ensures { Gives (ask_of h table.old kind bytes.now) result table.new }
+fn ask(h: TableHead, table: &mut [u8], kind: Kind, bytes: &[u8]) -> Result<Asked, Refusal>
+    ensures { Gives (ask_of h table.old (byte_of kind) bytes.now) (told h result) table.new }
 {
-    if !sound(h, table) {
-        return Asked {
-            refusal: 9,
-            number: 0,
-            head: h,
-        };
+    let Some(slots) = table.as_mut_array() else {
+        return Err(Refusal::Broken);
+    };
+    if !in_order(h, slots) {
+        return Err(Refusal::Broken);
     }
     let s = h.shelf(kind);
-    let a = decide(table, s, kind, bytes);
-    match a {
-        Asking::Refused(n) => {
-            return Asked {
-                refusal: n,
-                number: 0,
-                head: h,
-            };
-        }
-        Asking::Known(i) => {
-            return Asked {
-                refusal: 0,
-                number: s.first + i,
-                head: h,
-            };
-        }
-        Asking::Fresh => {
-            put(table, wide(s.from) + wide(s.count), kind, bytes);
-            return Asked {
-                refusal: 0,
-                number: s.first + s.count,
+    let known = decide(slots, s, kind, bytes)?;
+    match known {
+        Some(i) => Ok(Asked {
+            number: (s.first + i) as u32,
+            head: h,
+        }),
+        None => {
+            put(slots, s.from + s.count, u8::from(kind), bytes);
+            Ok(Asked {
+                number: (s.first + s.count) as u32,
                 head: h.grown(kind),
-            };
+            })
         }
     }
 }
 
-pub fn ask_name(h: TableHead, table: &mut [u8], name: &[u8]) -> Asked
-    ensures { Gives (ask_name h table.old name.now) result table.new }
+pub fn ask_name(h: TableHead, table: &mut [u8], name: &[u8]) -> Result<Asked, Refusal>
+    ensures { Gives (ask_name h table.old name.now) (told h result) table.new }
 {
-    ask(h, table, NAME, name)
+    ask(h, table, Kind::Name, name)
 }
 
-pub fn ask_bool(h: TableHead, table: &mut [u8], b: bool) -> Asked
-    ensures { Gives (ask_value h table.old (bool_value b)) result table.new }
+#[tactic(auto, unfolding(crate::specs::Value::kind_of, crate::specs::Value::content_of))]
+pub fn ask_bool(h: TableHead, table: &mut [u8], b: bool) -> Result<Asked, Refusal>
+    ensures { Gives (ask_value h table.old (bool_value b)) (told h result) table.new }
 {
-    let bytes = [b as u8];
-    ask(h, table, BOOL, &bytes)
+    let bytes = [u8::from(b)];
+    ask(h, table, Kind::Bool, &bytes)
 }
 
-pub fn ask_int(h: TableHead, table: &mut [u8], n: i64) -> Asked
-    ensures { Gives (ask_value h table.old (int_value n)) result table.new }
+pub fn ask_int(h: TableHead, table: &mut [u8], n: i64) -> Result<Asked, Refusal>
+    ensures { Gives (ask_value h table.old (int_value n)) (told h result) table.new }
 {
-    let bytes = bytes_of(bits_of(n));
-    ask(h, table, INT, &bytes)
+    let bytes = n.to_le_bytes();
+    ask(h, table, Kind::Int, &bytes)
 }
 
-pub fn ask_string(h: TableHead, table: &mut [u8], text: &[u8]) -> Asked
-    ensures { Gives (ask_value h table.old (string_value text.now)) result table.new }
+#[tactic(auto, unfolding(crate::specs::Value::kind_of, crate::specs::Value::content_of))]
+pub fn ask_string(h: TableHead, table: &mut [u8], text: &[u8]) -> Result<Asked, Refusal>
+    ensures { Gives (ask_value h table.old (string_value text.now)) (told h result) table.new }
 {
-    ask(h, table, STRING, text)
+    ask(h, table, Kind::String, text)
 }

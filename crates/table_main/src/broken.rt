@@ -1,22 +1,31 @@
 // Tables that are not sound, each in one way.
 use crate::print::{ask_bool, ask_int, ask_name, ask_string, name, value};
+use refusal::Refusal;
 use table::TableHead;
 
-// Two names, true, 7 and "ab", with the byte at a place set to another. Then a name, each kind of value, and what is read back.
-fn with_byte(at: usize, byte: u8) {
-    let mut t = [0u8; 9214];
-    let a = table::ask_name(TableHead::fresh(), &mut t, b"p");
-    let b = table::ask_name(a.head, &mut t, b"q");
-    let c = table::ask_bool(b.head, &mut t, true);
-    let d = table::ask_int(c.head, &mut t, 7);
-    let e = table::ask_string(d.head, &mut t, b"ab");
-    if at < 9214 {
-        t[at] = byte;
-    }
-    try_all(e.head, &mut t);
+// Two names, true, 7 and "ab".
+fn five(t: &mut [u8]) -> Result<TableHead, Refusal> {
+    let a = table::ask_name(TableHead::fresh(), t, b"p")?;
+    let b = table::ask_name(a.head, t, b"q")?;
+    let c = table::ask_bool(b.head, t, true)?;
+    let d = table::ask_int(c.head, t, 7)?;
+    let e = table::ask_string(d.head, t, b"ab")?;
+    Ok(e.head)
 }
 
-fn try_all(h: TableHead, t: &mut [u8; 9214]) {
+// Those five, with the byte at a place set to another. Then a name, each kind of value, and what is read back.
+fn with_byte(at: usize, byte: u8) {
+    let mut t = [0u8; TableHead::BYTES];
+    let Ok(h) = five(&mut t) else {
+        return;
+    };
+    if at < TableHead::BYTES {
+        t[at] = byte;
+    }
+    try_all(h, &mut t);
+}
+
+fn try_all(h: TableHead, t: &mut [u8; TableHead::BYTES]) {
     ask_name(h, t, b"p");
     ask_bool(h, t, true);
     ask_int(h, t, 7);
@@ -27,13 +36,13 @@ fn try_all(h: TableHead, t: &mut [u8; 9214]) {
 
 // A head that counts more than there can be, over bytes that are all 0.
 fn with_head(names: u32, values: u32) {
-    let mut t = [0u8; 9214];
+    let mut t = [0u8; TableHead::BYTES];
     ask_name(TableHead { names, values }, &mut t, b"p");
 }
 
 fn lengths() {
-    let mut short = [0u8; 9213];
-    let mut long = [0u8; 9215];
+    let mut short = [0u8; TableHead::BYTES - 1];
+    let mut long = [0u8; TableHead::BYTES + 1];
     let h = TableHead::fresh();
     ask_name(h, &mut short, b"p");
     ask_name(h, &mut long, b"p");

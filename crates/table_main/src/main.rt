@@ -8,7 +8,7 @@ use crate::print::{ask_bool, ask_int, ask_name, ask_string, name, value};
 use table::TableHead;
 
 // Names of 0, 1, 32 and 33 bytes, and one of them again.
-fn name_lengths(h: TableHead, t: &mut [u8; 9214]) -> TableHead {
+fn name_lengths(h: TableHead, t: &mut [u8; TableHead::BYTES]) -> TableHead {
     let x = [b'x'; 33];
     let a = ask_name(h, t, &x[..0]);
     let b = ask_name(a, t, &x[..1]);
@@ -18,20 +18,18 @@ fn name_lengths(h: TableHead, t: &mut [u8; 9214]) -> TableHead {
 }
 
 // Fourteen names more: a to n.
-fn fill_names(h: TableHead, t: &mut [u8; 9214]) -> TableHead {
+fn fill_names(h: TableHead, t: &mut [u8; TableHead::BYTES]) -> TableHead {
     let mut g = h;
-    let mut i: u8 = 0;
-    while i < 14 {
-        let letter = [b'a' + i];
-        let a = table::ask_name(g, t, &letter);
-        g = a.head;
-        i += 1;
+    for letter in b'a'..b'o' {
+        if let Ok(asked) = table::ask_name(g, t, &[letter]) {
+            g = asked.head;
+        }
     }
     g
 }
 
 // A full table: a new name, a known one, an empty one, one that is too long.
-fn full_names(h: TableHead, t: &mut [u8; 9214]) {
+fn full_names(h: TableHead, t: &mut [u8; TableHead::BYTES]) {
     let x = [b'x'; 33];
     ask_name(h, t, b"o");
     ask_name(h, t, b"n");
@@ -41,7 +39,7 @@ fn full_names(h: TableHead, t: &mut [u8; 9214]) {
 }
 
 // Strings of 0, 1, 32 and 33 bytes.
-fn string_lengths(h: TableHead, t: &mut [u8; 9214]) -> TableHead {
+fn string_lengths(h: TableHead, t: &mut [u8; TableHead::BYTES]) -> TableHead {
     let x = [b'x'; 33];
     let a = ask_string(h, t, &x[..0]);
     let b = ask_string(a, t, &x[..1]);
@@ -50,7 +48,7 @@ fn string_lengths(h: TableHead, t: &mut [u8; 9214]) -> TableHead {
 }
 
 // true, 1, "1" and the byte 1; false, 0 and the byte 0.
-fn kinds(h: TableHead, t: &mut [u8; 9214]) -> TableHead {
+fn kinds(h: TableHead, t: &mut [u8; TableHead::BYTES]) -> TableHead {
     let a = ask_bool(h, t, true);
     let b = ask_int(a, t, 1);
     let c = ask_string(b, t, b"1");
@@ -61,7 +59,7 @@ fn kinds(h: TableHead, t: &mut [u8; 9214]) -> TableHead {
 }
 
 // The least, the greatest, -1 and -256.
-fn extremes(h: TableHead, t: &mut [u8; 9214]) -> TableHead {
+fn extremes(h: TableHead, t: &mut [u8; TableHead::BYTES]) -> TableHead {
     let a = ask_int(h, t, -9223372036854775808);
     let b = ask_int(a, t, 9223372036854775807);
     let c = ask_int(b, t, -1);
@@ -70,37 +68,28 @@ fn extremes(h: TableHead, t: &mut [u8; 9214]) -> TableHead {
 }
 
 // What the numbers stand for; value 0 and the first number past the end stand for nothing.
-fn read_back(h: TableHead, t: &[u8; 9214]) {
-    let mut v: u32 = 0;
-    while v < 16 {
+fn read_back(h: TableHead, t: &[u8; TableHead::BYTES]) {
+    for v in 0..16 {
         value(h, t, v);
-        v += 1;
     }
-    name(h, t, 0);
-    name(h, t, 1);
-    name(h, t, 2);
-    name(h, t, 15);
-    name(h, t, 16);
-}
-
-fn signed(n: u32) -> i64 {
-    n as i64
+    for n in [0, 1, 2, 15, 16] {
+        name(h, t, n);
+    }
 }
 
 // Integers from 1241 down to 1001, until 255 values are there.
-fn fill_values(h: TableHead, t: &mut [u8; 9214]) -> TableHead {
+fn fill_values(h: TableHead, t: &mut [u8; TableHead::BYTES]) -> TableHead {
     let mut g = h;
-    let mut left: u32 = 241;
-    while left > 0 {
-        let a = table::ask_int(g, t, signed(left + 1000));
-        g = a.head;
-        left -= 1;
+    for n in (1001..1242).rev() {
+        if let Ok(asked) = table::ask_int(g, t, n) {
+            g = asked.head;
+        }
     }
     g
 }
 
 // A full table: new values, known ones, a string that is too long.
-fn full_values(h: TableHead, t: &mut [u8; 9214]) {
+fn full_values(h: TableHead, t: &mut [u8; TableHead::BYTES]) {
     let x = [b'x'; 33];
     ask_int(h, t, 1001);
     ask_int(h, t, 1000);
@@ -113,7 +102,7 @@ fn full_values(h: TableHead, t: &mut [u8; 9214]) {
 }
 
 fn main() {
-    let mut t = [0u8; 9214];
+    let mut t = [0u8; TableHead::BYTES];
     let a = name_lengths(TableHead::fresh(), &mut t);
     let b = fill_names(a, &mut t);
     full_names(b, &mut t);

@@ -1,65 +1,37 @@
 -- `lookup::value_at` meets its contract. Assumes nothing.
 use native.Mathlib.Omega.{arith}
-use mathlib.Core.Path.{sym, ◌∙◌}
-use mathlib.Core.Logic.{inl, inr}
+use mathlib.Core.Path.{sym, ap, ◌∙◌}
+use lib.ListN.{length}
 use mir.Syntax.{w64}
 use mir.Val.{SFits}
 use mir.Facts.{to_z-of_z}
-use borrow.Author.Tests.{eq-eqb, ne_eqb}
-use Rattle.lookup.specs.Show.{value_of, shown_of, value_at, case_of}
-use Rattle.lookup.proofs.Numbers.{given-value, given_short}
+use Rattle.std.proofs.lemmas.Result.{MatchResult-at_ok}
+use Rattle.entries.specs.Kind.{byte_of}
+use Rattle.lookup.proofs.Numbers.{bool_shown, int_shown, other_shown, one_byte, eight_bytes}
 use Rattle.lookup.proofs.value_at.Goals as goal
-use Rattle.lookup.proofs.value_at.Goals.{After-wide-slot}
 
-pub returns-then-not-given_value : goal.returns-then-not-given_value
-unfolding shown_of
-returns-then-not-given_value c = rw (sym c.given_value.ensures ∙ c.if-not-given_value.true)
+pub bounds-content-0 : goal.bounds-content-0
+bounds-content-0 c =
+    let kind = ap byte_of (sym c.in-Bool.is) ∙ c.in_ok-kind.ensures.1 in
+    let long = ap length c.in_ok-kind.ensures.2 ∙ one_byte _ _ _ c.in_ok-kind.ensures.0 kind in
+    omega arith
 
-pub kind_at-kind-requires : goal.kind_at-kind-requires
-kind_at-kind-requires c =
-    let given = given-value _ _ _ (sym c.given_value.ensures ∙ c.if-not-given_value.false) in
-    let few = given.sound.of_values.few in
-    let high = given.high in
-    (omega (arith, c.wide-slot.ensures), given.sound.full)
+pub unwrap-requires : goal.unwrap-requires
+unwrap-requires c =
+    let kind = ap byte_of (sym c.in-Int.is) ∙ c.in_ok-kind.ensures.1 in
+    c.try_into.ensures.0 (ap length c.in_ok-kind.ensures.2 ∙ eight_bytes _ _ _ c.in_ok-kind.ensures.0 kind)
 
-pub content-requires : goal.content-requires
-content-requires c = kind_at-kind-requires (goal.at.content-requires c).After-wide-slot
+pub returns-in-Bool : goal.returns-in-Bool
+returns-in-Bool c =
+    let kind = ap byte_of (sym c.in-Bool.is) ∙ c.in_ok-kind.ensures.1 in
+    rw c.in_ok-kind.ensures.2 (sym (bool_shown _ _ _ c.in_ok-kind.ensures.0 kind))
 
-pub number_of-requires : goal.number_of-requires
-number_of-requires c =
-    let given = given-value _ _ _ (sym c.given_value.ensures ∙ c.if-not-given_value.false) in
-    let kind = rw c.wide-slot.ensures at c.kind_at-kind.ensures in
-    rw (c.content.ensures, c.wide-slot.ensures) (given_short given _ kind (inl c.if-kind-eq-BOOL.true))
+pub returns-in-Int : goal.returns-in-Int
+returns-in-Int c =
+    let kind = ap byte_of (sym c.in-Int.is) ∙ c.in_ok-kind.ensures.1 in
+    let bytes = (MatchResult-at_ok _ _ _ c.unwrap.ensures c.try_into.ensures.1).same ∙ c.in_ok-kind.ensures.2 in
+    let fits : SFits w64 c.from_le_bytes.result = record { sfits = c.from_le_bytes.type_inv } in
+    rw (to_z-of_z fits, c.from_le_bytes.ensures, bytes) (sym (int_shown _ _ _ c.in_ok-kind.ensures.0 kind))
 
-pub returns-then-kind-eq-BOOL : goal.returns-then-kind-eq-BOOL
-unfolding shown_of value_at value_of case_of
-returns-then-kind-eq-BOOL c =
-    let given = sym c.given_value.ensures ∙ c.if-not-given_value.false in
-    let kind = rw c.wide-slot.ensures at c.kind_at-kind.ensures in
-    let number = rw (c.content.ensures, c.wide-slot.ensures) at c.number_of.ensures in
-    rw (given, ← kind, eq-eqb _ _ c.if-kind-eq-BOOL.true, number)
-
-pub content-requires-then-kind-eq-INT : goal.content-requires-then-kind-eq-INT
-content-requires-then-kind-eq-INT c = kind_at-kind-requires (goal.at.content-requires-then-kind-eq-INT c).After-wide-slot
-
-pub number_of-requires-then-kind-eq-INT : goal.number_of-requires-then-kind-eq-INT
-number_of-requires-then-kind-eq-INT c =
-    let given = given-value _ _ _ (sym c.given_value.ensures ∙ c.if-not-given_value.false) in
-    let kind = rw c.wide-slot.ensures at c.kind_at-kind.ensures in
-    rw (c.content-then-kind-eq-INT.ensures, c.wide-slot.ensures) (given_short given _ kind (inr c.if-kind-eq-INT.true))
-
-pub returns-then-kind-eq-INT : goal.returns-then-kind-eq-INT
-unfolding shown_of value_at value_of case_of
-returns-then-kind-eq-INT c =
-    let given = sym c.given_value.ensures ∙ c.if-not-given_value.false in
-    let kind = rw c.wide-slot.ensures at c.kind_at-kind.ensures in
-    let number = rw (c.content-then-kind-eq-INT.ensures, c.wide-slot.ensures) at c.number_of-then-kind-eq-INT.ensures in
-    let fits : SFits w64 c.integer_of.result = record { sfits = c.integer_of.type_inv } in
-    rw (given, ← kind, ne_eqb _ _ c.if-kind-eq-BOOL.false, eq-eqb _ _ c.if-kind-eq-INT.true, to_z-of_z fits, c.integer_of.ensures, number)
-
-pub returns : goal.returns
-unfolding shown_of value_at value_of case_of
-returns c =
-    let given = sym c.given_value.ensures ∙ c.if-not-given_value.false in
-    let kind = rw c.wide-slot.ensures at c.kind_at-kind.ensures in
-    rw (given, ← kind, ne_eqb _ _ c.if-kind-eq-BOOL.false, ne_eqb _ _ c.if-kind-eq-INT.false)
+pub returns-in_default : goal.returns-in_default
+returns-in_default c = sym (other_shown _ _ _ c.in_ok-kind.ensures.0 _ c.in_ok-kind.ensures.1 c.in_default.not-Bool c.in_default.not-Int)
