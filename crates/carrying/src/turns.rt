@@ -3,7 +3,7 @@ ghost use Rattle.std.specs.Prelude.{◌≡◌, ◌+◌, ◌≤◌};
 ghost use Rattle.attrs.specs.Packed.{says};
 ghost use Rattle.rules.specs.Delta.{new_text, new_embed, insert_here, carry_out};
 ghost use Rattle.arena.specs.Places.{SIZE, Standing, placed, Carried};
-ghost use Rattle.carrying.specs.Turns.{given_at, held_by, brings, rule_of, laid, bringing, given, Tried};
+ghost use Rattle.carrying.specs.Turns.{given_at, held_by, brings, rule_of, laid, bringing, Tried};
 
 use arena::{At, Place};
 use attrs::Attrs;
@@ -11,7 +11,7 @@ use edits::format::insert_format;
 use edits::insert::insert;
 use layout::head::Head;
 use layout::word::Content;
-use ops::delta::{Delta, Inserted, Op};
+use ops::delta::{DeltaOp, Inserted, Op};
 use removal::delete_here;
 
 // Empty text does nothing, it does not even settle.
@@ -58,36 +58,24 @@ pub fn brought(op: Op) -> u32
     ensures { result ≡ brings op }
 {
     match op {
-        Op::Insert(part) => match part {
-            Inserted::Text { start: _, len } => len,
-            Inserted::Embed(_) => 0,
-        },
-        Op::Delete(_) => 0,
-        Op::Retain(_) => 0,
+        Op::Insert(Inserted::Text { len, .. }) => len,
+        _ => 0,
     }
 }
 
 // It stops where the list gets too long, since no operation makes it shorter.
-pub fn carry_out(from: At, work: &mut [u64], used: u32, delta: Delta) -> Head
-    requires { Standing from.head work.old from.place × (from.head.items ≤ 2048) × (delta.count ≤ 256) × (used + bringing (given delta) ≤ 16384) }
-    ensures { Tried (carry_out (laid used (given delta)) (placed from.head work.old from.place)) result work.new }
+pub fn carry_out(from: At, work: &mut [u64], used: u32, ops: &[DeltaOp]) -> Head
+    requires { Standing from.head work.old from.place × (from.head.items ≤ 2048) × (used + bringing ops.now ≤ 16384) }
+    ensures { Tried (carry_out (laid used ops.now) (placed from.head work.old from.place)) result work.new }
 {
-    let count = delta.count as usize;
     let mut at = from;
     let mut next = used;
-    let mut i = 0;
-    while i < count {
-        let d = delta.ops[i];
-        let head = at.head;
-        let place = at.place;
-        let op = d.op;
-        let set = d.attrs;
-        at = step(head, work, place, next, op, set);
+    for d in ops {
+        at = step(at.head, work, at.place, next, d.op, d.attrs);
         if at.head.items > Head::ITEMS {
             return at.head;
         }
-        next += brought(op);
-        i += 1;
+        next += brought(d.op);
     }
     at.head
 }

@@ -2,7 +2,7 @@
 use Prim.Native.Nat.{ℕ, ◌+◌}
 use mathlib.Core.Path.{◌≡◌, sym, ap, ap₂, ◌∙◌}
 use mathlib.Core.Bool.{true, false}
-use mathlib.Core.List.{List, ◌++◌}
+use mathlib.Core.List.{List, ◌++◌, map}
 use lib.ListN.{length, take, length-append}
 use Rattle.rules.specs.Reading.{Op}
 use Rattle.rules.specs.Delta.{Given, delta}
@@ -13,23 +13,24 @@ use Rattle.layout.proofs.Soundness.{sound-parts}
 use Rattle.layout.proofs.Models.{used-length}
 use Rattle.changes.specs.Frame.{Left, granted}
 use Rattle.ops.specs.declared.delta.Delta.{Delta}
-use Rattle.ops.specs.Ops.{ops_of}
-use Rattle.carrying.specs.Turns.{laid, bringing, given}
+use Rattle.ops.specs.declared.delta.DeltaOp.{DeltaOp}
+use Rattle.ops.specs.Ops.{op_of, ops_of}
+use Rattle.carrying.specs.Turns.{laid, bringing}
 use Rattle.deltas.specs.Checks.{any_past, many_of}
 use Rattle.deltas.specs.Call.{short_scratch, carry_delta}
 use Rattle.deltas.proofs.Laid.{laid-is, new-length}
 
-module _ (t : List ℕ) (d : Delta) (h : Head) (m u : List ℕ) (ok : sound_of h m u ≡ true) (parts : any_past (length t) (given d) ≡ false) where
+module _ (t : List ℕ) (ds : List DeltaOp) (h : Head) (m u : List ℕ) (ok : sound_of h m u ≡ true) (parts : any_past (length t) ds ≡ false) where
   used-is : length (take h.units u) ≡ h.units
   used-is = used-length h m u (sound-parts h m u ok)
 
-  pub delta-long : length (take h.units u ++ new_units (ops_of t d)) ≡ h.units + bringing (given d)
-  delta-long = length-append (take h.units u) (new_units (ops_of t d)) ∙ ap₂ (λ (a b : ℕ). a + b) used-is (new-length t d parts)
+  pub delta-long : length (take h.units u ++ new_units (map (op_of t) ds)) ≡ h.units + bringing ds
+  delta-long = length-append (take h.units u) (new_units (map (op_of t) ds)) ∙ ap₂ (λ (a b : ℕ). a + b) used-is (new-length t ds parts)
 
-  pub delta-granted : (used : ℕ) (x : Left) → x ≡ granted (delta (laid h.units (given d)) (list_of h m) h.items) used h m
-      → x ≡ granted (delta (laid_out (length (take h.units u)) (ops_of t d)) (list_of h m) h.items) used h m
+  pub delta-granted : (used : ℕ) (x : Left) → x ≡ granted (delta (laid h.units ds) (list_of h m) h.items) used h m
+      → x ≡ granted (delta (laid_out (length (take h.units u)) (map (op_of t) ds)) (list_of h m) h.items) used h m
   delta-granted used x e =
-      let same : laid_out (length (take h.units u)) (ops_of t d) ≡ laid h.units (given d) = ap (λ (n : ℕ). laid_out n (ops_of t d)) used-is ∙ laid-is t d h.units parts in
+      let same : laid_out (length (take h.units u)) (map (op_of t) ds) ≡ laid h.units ds = ap (λ (n : ℕ). laid_out n (map (op_of t) ds)) used-is ∙ laid-is t ds h.units parts in
       e ∙ ap (λ (l : List (Op Given)). granted (delta l (list_of h m) h.items) used h m) (sym same)
 
 -- ---- the ways of the call

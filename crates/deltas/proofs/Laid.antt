@@ -16,9 +16,8 @@ use Rattle.ops.specs.declared.delta.Inserted.TheVariants.{Text, Embed}
 use Rattle.ops.specs.declared.delta.Op.{Op}
 use Rattle.ops.specs.declared.delta.Op.TheVariants.{Insert, Delete, Retain}
 use Rattle.ops.specs.declared.delta.DeltaOp.{DeltaOp}
-use Rattle.ops.specs.declared.delta.Delta.{Delta}
-use Rattle.ops.specs.Ops.{op_for, op_of, ops_of}
-use Rattle.carrying.specs.Turns.{brings, laid_for, laid, bringing, given}
+use Rattle.ops.specs.Ops.{op_for, op_of}
+use Rattle.carrying.specs.Turns.{brings, laid_for, laid, bringing}
 use Rattle.deltas.specs.Checks.{past_end, any_past}
 use Rattle.deltas.specs.Texts.{units_of}
 use Rattle.deltas.proofs.Refusals.{left_false}
@@ -49,25 +48,16 @@ module _ (t : List ℕ) where
   new-cons (Retain n) a os = refl
 
   -- ---- all of them
-  laid-all : (ds : List DeltaOp) (m : ℕ) → any_past (length t) ds ≡ false → laid_out m (map (op_of t) ds) ≡ laid m ds
+  pub laid-is : (ds : List DeltaOp) (m : ℕ) → any_past (length t) ds ≡ false → laid_out m (map (op_of t) ds) ≡ laid m ds
   unfolding any_past laid op_of
-  laid-all [] m e = refl
-  laid-all (d ∷ ds) m e =
+  laid-is [] m e = refl
+  laid-is (d ∷ ds) m e =
       let b = left_false (past_end (length t) d.op) (any_past (length t) ds) e in
-      laid_one d.op (says d.attrs) (map (op_of t) ds) m b.0 ∙ ap (λ (l : List (rules.Op Given)). laid_for m (says d.attrs) d.op ∷ l) (laid-all ds (m + brings d.op) b.1)
+      laid_one d.op (says d.attrs) (map (op_of t) ds) m b.0 ∙ ap (λ (l : List (rules.Op Given)). laid_for m (says d.attrs) d.op ∷ l) (laid-is ds (m + brings d.op) b.1)
 
-  new-all : (ds : List DeltaOp) → any_past (length t) ds ≡ false → length (new_units (map (op_of t) ds)) ≡ bringing ds
+  pub new-length : (ds : List DeltaOp) → any_past (length t) ds ≡ false → length (new_units (map (op_of t) ds)) ≡ bringing ds
   unfolding any_past bringing op_of
-  new-all [] e = refl
-  new-all (d ∷ ds) e =
+  new-length [] e = refl
+  new-length (d ∷ ds) e =
       let b = left_false (past_end (length t) d.op) (any_past (length t) ds) e in
-      ap length (new-cons d.op (says d.attrs) (map (op_of t) ds)) ∙ length-append (units_of t d.op) _ ∙ ap₂ (λ (a b : ℕ). a + b) (units-long d.op b.0) (new-all ds b.1)
-
-  -- ---- a delta's
-  pub laid-is : (d : Delta) (m : ℕ) → any_past (length t) (given d) ≡ false → laid_out m (ops_of t d) ≡ laid m (given d)
-  unfolding ops_of
-  laid-is d m e = laid-all (given d) m e
-
-  pub new-length : (d : Delta) → any_past (length t) (given d) ≡ false → length (new_units (ops_of t d)) ≡ bringing (given d)
-  unfolding ops_of
-  new-length d e = new-all (given d) e
+      ap length (new-cons d.op (says d.attrs) (map (op_of t) ds)) ∙ length-append (units_of t d.op) _ ∙ ap₂ (λ (a b : ℕ). a + b) (units-long d.op b.0) (new-length ds b.1)

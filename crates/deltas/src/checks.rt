@@ -1,58 +1,55 @@
 // What only reads a delta: whether it can be read at all, and how many units it brings.
-ghost use Rattle.std.specs.Prelude.{◌≡◌, ◌≤◌};
-ghost use Rattle.carrying.specs.Turns.{given, bringing};
-ghost use Rattle.deltas.specs.Checks.{past_end, many_of};
+ghost use Rattle.std.specs.Prelude.{◌≡◌, ◌≤◌, length};
+ghost use Rattle.carrying.specs.Turns.{bringing, given};
+ghost use Rattle.deltas.specs.Checks.{past_end, any_past, many_of};
 
 use carrying::turns::brought;
-use ops::delta::{Delta, Inserted, Op};
+use ops::delta::{Delta, DeltaOp, Inserted, Op};
 
 // In 64 bits, since a start and a length can pass 32.
 fn past_end(n: usize, op: Op) -> bool
     ensures { result ≡ past_end n op }
 {
     match op {
-        Op::Insert(part) => match part {
-            Inserted::Text { start, len } => start as u64 + len as u64 > n as u64,
-            Inserted::Embed(_) => false,
-        },
-        Op::Delete(_) => false,
-        Op::Retain(_) => false,
+        Op::Insert(Inserted::Text { start, len }) => start as u64 + len as u64 > n as u64,
+        _ => false,
     }
+}
+
+// Those that count.
+pub(crate) fn operations(delta: &Delta) -> &[DeltaOp]
+    requires { delta.now.count ≤ 256 }
+    ensures { result.now ≡ given delta.now }
+{
+    &delta.ops[..delta.count as usize]
+}
+
+fn any_past(n: usize, ops: &[DeltaOp]) -> bool
+    ensures { result ≡ any_past n ops.now }
+{
+    for d in ops {
+        if past_end(n, d.op) {
+            return true;
+        }
+    }
+    false
 }
 
 // `n` is how many units are lent.
 pub(crate) fn many(n: usize, delta: Delta) -> bool
     ensures { result ≡ many_of n delta }
 {
-    if delta.count > Delta::OPS {
-        return true;
-    }
-    let count = delta.count as usize;
-    let mut i = 0;
-    while i < count {
-        let d = delta.ops[i];
-        let op = d.op;
-        if past_end(n, op) {
-            return true;
-        }
-        i += 1;
-    }
-    false
+    delta.count > Delta::OPS || any_past(n, operations(&delta))
 }
 
 // In 64 bits: 256 texts may be the same long part.
-pub(crate) fn total(delta: Delta) -> u64
-    requires { delta.count ≤ 256 }
-    ensures { result ≡ bringing (given delta) }
+pub(crate) fn total(ops: &[DeltaOp]) -> u64
+    requires { length ops.now ≤ 256 }
+    ensures { result ≡ bringing ops.now }
 {
-    let count = delta.count as usize;
     let mut sum = 0;
-    let mut i = 0;
-    while i < count {
-        let d = delta.ops[i];
-        let op = d.op;
-        sum += brought(op) as u64;
-        i += 1;
+    for d in ops {
+        sum += u64::from(brought(d.op));
     }
     sum
 }

@@ -3,37 +3,34 @@ use Prim.Native.Nat.{ℕ, suc, ◌+◌}
 use native.Mathlib.Omega.{arith}
 use mathlib.Core.Path.{◌≡◌, ap, ◌∙◌}
 use mathlib.Core.List.{◌∷◌}
-use lib.ListN.{length, get_or, drop}
-use Rattle.carrying.specs.Turns.{bringing, given}
-use Rattle.carrying.proofs.Carrying.{length_mapped, unread, given-length, given-at}
+use lib.ListN.{get_or, drop}
+use lib.Seq.{drop-cons}
+use Rattle.carrying.specs.Turns.{bringing}
+use Rattle.carrying.proofs.Carrying.{unread}
 use Rattle.deltas.proofs.Reading.{total-next, total_done}
-use borrow.Author.Rules.{rules}
 use Rattle.deltas.proofs.checks.total.Goals as goal
-use Rattle.deltas.proofs.checks.total.Goals.{In-loop-i, Start}
-
-ops-long : (s : Start) → length s.args.delta.ops ≡ 256
-ops-long s = search (rules, length_mapped)
+use Rattle.deltas.proofs.checks.total.Goals.{In-loop-d}
 
 -- the operation that is next
-next-is : (c : In-loop-i) → (
-    let d = c.args.delta in
-    let i = c.loop-i.i in
-    drop i (given d) ≡ get_or d.ops i unread ∷ drop (suc i) (given d)
+next-is : (c : In-loop-d) → (
+    let ds = c.args.ops.now in
+    let i = c.loop-d.d-index in
+    drop i ds ≡ get_or ds i unread ∷ drop (suc i) ds
     )
-next-is c = given-at c.args.delta _ unread (ops-long (goal.at.In-loop-i c).Start) c.requires c.loop-i-test.true
+next-is c = drop-cons c.args.ops.now _ unread c.loop-d-test.true
 
-pub loop-i-init : goal.loop-i-init
-loop-i-init c = (omega arith, omega arith)
+pub loop-d-init : goal.loop-d-init
+loop-d-init c = (omega arith, omega arith)
 
 pub overflow_add-sum : goal.overflow_add-sum
-overflow_add-sum c = omega (arith, c.loop-i.invariant.1, c.loop-i-test.true, c.requires, c.brought.type_inv)
+overflow_add-sum c = omega (arith, c.loop-d.invariant.1, c.loop-d-test.true, c.requires, c.brought.type_inv)
 
-pub loop-i-preserved : goal.loop-i-preserved
-loop-i-preserved c = (
-  ap (λ (k : ℕ). c.loop-i.sum + k + bringing (drop (c.loop-i.i + 1) (given c.args.delta))) c.brought.ensures
-      ∙ total-next (given c.args.delta) c.loop-i.i _ (next-is (goal.at.loop-i-preserved c).In-loop-i) _ c.loop-i.invariant.0,
-  omega (arith, c.loop-i.invariant.1, c.brought.type_inv),
+pub loop-d-preserved : goal.loop-d-preserved
+loop-d-preserved c = (
+  ap (λ (k : ℕ). c.loop-d.sum + k + bringing (drop (c.loop-d.d-index + 1) c.args.ops.now)) (c.from-sum.ensures ∙ c.brought.ensures)
+      ∙ total-next c.args.ops.now c.loop-d.d-index _ (next-is (goal.at.loop-d-preserved c).In-loop-d) _ c.loop-d.invariant.0,
+  omega (arith, c.loop-d.invariant.1, c.brought.type_inv, c.from-sum.ensures),
 )
 
 pub returns : goal.returns
-returns c = total_done (given c.args.delta) c.loop-i.i (omega (arith, given-length c.args.delta (ops-long (goal.at.returns c).Start) c.requires, c.loop-i-test.false)) _ c.loop-i.invariant.0
+returns c = total_done c.args.ops.now c.loop-d.d-index c.loop-d-test.false _ c.loop-d.invariant.0

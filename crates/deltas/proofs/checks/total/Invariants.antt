@@ -1,11 +1,8 @@
-use Prim.Native.Nat.{◌+◌, ◌*◌, ◌-◌, ◌≤◌}
+use Prim.Native.Nat.{◌+◌, ◌*◌, ◌≤◌}
 use mathlib.Core.Path.{◌≡◌}
 use lib.ListN.{drop}
-use Rattle.carrying.specs.Turns.{bringing, given}
+use Rattle.carrying.specs.Turns.{bringing}
 use Rattle.deltas.proofs.checks.total.Given as goal
 
-abbrev pub invariant-loop-i : goal.invariant-loop-i
-invariant-loop-i l = (l.sum + bringing (drop l.i (given l.delta)) ≡ bringing (given l.delta)) × (l.sum ≤ l.i * 4294967296)
-
-abbrev pub decreases-loop-i : goal.decreases-loop-i
-decreases-loop-i l = l.count - l.i
+abbrev pub invariant-loop-d : goal.invariant-loop-d
+invariant-loop-d l = (l.sum + bringing (drop l.d-index l.ops) ≡ bringing l.ops) × (l.sum ≤ l.d-index * 4294967296)

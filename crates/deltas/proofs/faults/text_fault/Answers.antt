@@ -11,7 +11,7 @@ returns-then-is_whole c =
     let a = c.args in
     rw (sym (ap (λ (n : ℕ). paired (take n (drop a.start a.chunk.now))) (add-sub_cancel_left a.start a.len)) ∙ sym c.is_whole.ensures ∙ c.if-is_whole.true)
 
-pub returns : goal.returns
-returns c =
+pub returns-else-is_whole : goal.returns-else-is_whole
+returns-else-is_whole c =
     let a = c.args in
     rw (sym (ap (λ (n : ℕ). paired (take n (drop a.start a.chunk.now))) (add-sub_cancel_left a.start a.len)) ∙ sym c.is_whole.ensures ∙ c.if-is_whole.false)
