@@ -14,12 +14,11 @@ use Rattle.layout.specs.declared.head.Head.{Head}
 use Rattle.layout.specs.Chain.{item_at}
 use Rattle.arena.specs.declared.Place.{Place}
 use Rattle.arena.specs.Places.{Going, Carried, forward_of, ahead, halving}
-use Rattle.arena.specs.Writes.{kill_mem}
 use Rattle.arena.proofs.Carried.{carried-then}
 use Rattle.arena.proofs.Walks.{going_end, going-here, going-ahead, going-kill, going-by}
 use Rattle.edits.specs.declared.format.Turn.{Turn}
 use Rattle.edits.specs.declared.format.Turn.TheVariants.{Stop, Pass, Mark, Through, Cut}
-use Rattle.edits.specs.Formats.{live_turn, walks_over, turn_of}
+use Rattle.edits.specs.Formats.{live_turn, walks_over, turn_of, killed_if, left_after, remembered_after}
 
 -- ---- the rule, by its turns
 module _ (a : Set) (n : ℕ) (r : Set) (i : Item) (l : List Item) (m : ℕ) where
@@ -94,16 +93,17 @@ module _ {f : Move} {h : Head} {m : List ℕ} {p : Place} (a : Set) {n : ℕ} {r
         → Carried ahead h₂ m₂ p₂ h₂ m₂ p₃ → Going f h m p (closing r) h₂ m₂ p₃
     walked-cut t c d = going-by o more (carried-then c d) (closing r) (λ e l k. turned more t l k)
 
-    pub walked_pass : Pass ≡ turn_of a n r (dead (item_at m₁ p₁.right)) (item_at m₁ p₁.right).what → (q : Place) → q ≡ forward_of m₁ p₁ → Going f h m p (walking a n r) h₁ m₁ q
-    walked_pass t q eq = going-ahead o more q eq (walking a n r) (λ e l k. turned more t l k)
-
-    pub walked_mark : Mark ≡ turn_of a n r (dead (item_at m₁ p₁.right)) (item_at m₁ p₁.right).what → (k : List ℕ) → k ≡ kill_mem m₁ p₁.right → (q : Place) → q ≡ forward_of k p₁
-        → (s : Set) → s ≡ remember a (item_at m₁ p₁.right).what r → Going f h m p (walking a n s) h₁ k q
-    walked_mark t k ek q eq s es = rw es (going-kill o more k ek q eq (walking a n (remember a (item_at m₁ p₁.right).what r)) (λ e l j. turned more t l j))
-
-    pub walked_through : Through ≡ turn_of a n r (dead (item_at m₁ p₁.right)) (item_at m₁ p₁.right).what → (q : Place) → q ≡ forward_of m₁ p₁
-        → (x : ℕ) → x ≡ n - width (item_at m₁ p₁.right).what → Going f h m p (walking a x r) h₁ m₁ q
-    walked_through t q eq x ex = rw ex (going-ahead o more q eq (walking a (n - width (item_at m₁ p₁.right).what) r) (λ e l k. turned more t l k))
+    pub walked_on : (t : Turn) → t ≡ turn_of a n r (dead (item_at m₁ p₁.right)) (item_at m₁ p₁.right).what → (t ≡ Stop → ⊥) → (t ≡ Cut → ⊥)
+        → (k : List ℕ) → k ≡ killed_if t m₁ p₁.right → (q : Place) → q ≡ forward_of k p₁
+        → (x : ℕ) → x ≡ left_after t n (item_at m₁ p₁.right).what → (s : Set) → s ≡ remembered_after t a (item_at m₁ p₁.right).what r
+        → Going f h m p (walking a x s) h₁ k q
+    walked_on Stop t no_stop no_cut k ek q eq x ex s es = absurd (no_stop refl)
+    walked_on Pass t no_stop no_cut k ek q eq x ex s es = rw (ex, es, ek) (going-ahead o more q (rw ek at eq) (walking a n r) (λ e l j. turned more t l j))
+    walked_on Mark t no_stop no_cut k ek q eq x ex s es =
+        rw (ex, es) (going-kill o more k ek q eq (walking a n (remember a (item_at m₁ p₁.right).what r)) (λ e l j. turned more t l j))
+    walked_on Through t no_stop no_cut k ek q eq x ex s es =
+        rw (ex, es, ek) (going-ahead o more q (rw ek at eq) (walking a (n - width (item_at m₁ p₁.right).what) r) (λ e l j. turned more t l j))
+    walked_on Cut t no_stop no_cut k ek q eq x ex s es = absurd (no_cut refl)
 
 -- ---- room
 pub halving-room : (n : ℕ) (e : Env) (l : List Item) (m : ℕ) → (halving n e l m).next ≤ m + 1

@@ -4,7 +4,7 @@ use native.Mathlib.Omega.{arith}
 use Rattle.attrs.specs.Packed.{says}
 use Rattle.arena.proofs.Standing.{right_lt, neat-here}
 use Rattle.arena.proofs.Steps.{forward-carried, cut-more}
-use Rattle.edits.proofs.Formats.{walked_end, walked_stop, walked_pass, walked_mark, walked_through, walked-cut, through_means, cut_means}
+use Rattle.edits.proofs.Formats.{walked_end, walked_stop, walked-cut, walked_on, through_means, cut_means}
 use Rattle.edits.proofs.format.walk.Goals as goal
 use Rattle.edits.proofs.format.walk.Goals.{in-Pass, in-Mark, in-Through}
 
@@ -45,9 +45,9 @@ loop-at-preserved c =
     let more = c.loop-at-test.true in
     let next = c.forward-at.ensures in
     elim c.match-turn_of.branch [
-      | in-Pass w ↦ rw (w.items-is, w.left-is, w.rest-is) (walked_pass _ o more w.in-Pass.ensures _ (rw w.items-is at next))
-      | in-Mark w ↦ rw w.left-is (walked_mark _ o more w.in-Mark.ensures _ (w.items-is ∙ w.delete.ensures) _ next _ (ap says w.rest-is ∙ w.remembered_after-rest.ensures))
-      | in-Through w ↦ rw (w.items-is, w.rest-is) (walked_through _ o more w.in-Through.ensures _ (rw w.items-is at next) _ (rw (w.width-left.ensures, w.unpack.ensures) at w.left-is))
+      | in-Pass w ↦ walked_on _ o more _ w.in-Pass.ensures (λ e. cc) (λ e. cc) _ w.items-is _ next _ w.left-is _ (ap says w.rest-is)
+      | in-Mark w ↦ walked_on _ o more _ w.in-Mark.ensures (λ e. cc) (λ e. cc) _ (w.items-is ∙ w.delete.ensures) _ next _ w.left-is _ (ap says w.rest-is ∙ w.remembered_after-rest.ensures)
+      | in-Through w ↦ walked_on _ o more _ w.in-Through.ensures (λ e. cc) (λ e. cc) _ w.items-is _ next _ (rw (w.width-left.ensures, w.unpack.ensures) at w.left-is) _ (ap says w.rest-is)
     ]
 
 pub returns-after-loop-at-clause-going : goal.returns-after-loop-at-clause-going
