@@ -2,23 +2,24 @@
 use Prim.Native.Nat.{ℕ, zero, suc, ◌+◌, ◌-◌, ◌<◌, ◌≤◌, min}
 use native.Mathlib.Omega.{arith}
 use mathlib.Core.Path.{◌≡◌, refl, sym, ap, ap₂, ◌∙◌}
-use mathlib.Core.Bool.{Bool, true, false, cond, not}
+use mathlib.Core.Bool.{Bool, true, false, cond}
 use mathlib.Core.List.{List, [], ◌∷◌, ◌++◌, map}
 use lib.Dec.{leb}
-use lib.ListN.{length, take, drop, length-append, length-take, length-drop}
+use lib.ListN.{length, take, drop, length-take, length-drop}
 use lib.Seq.{get_or-take, take_all}
 use borrow.Author.Tests.{le-leb, lt-leb, leb-true}
 use Rattle.std.specs.Prelude.{Ok, Err}
 use Rattle.refusal.specs.declared.Refusal.{Refusal}
 use Rattle.refusal.specs.declared.Refusal.TheVariants.{Short, Pair, Units, Room, Full, Long, Many, Out, Broken, Key}
 use Rattle.refusal.specs.Numbers.{number_of}
-use Rattle.rules.specs.Sheet.{What, text, embed, mark, width, Item}
+use Rattle.rules.specs.Sheet.{What, text, embed, mark, Item}
 use Rattle.rules.specs.Reading.{units_of, visible}
 use Rattle.rules.specs.Sound.{Fits, AllFit}
 use Rattle.rules.specs.Calls.{unit_at, visible_units, bad_range}
 use Rattle.rules.specs.Rulings.{seen}
 use Rattle.layout.specs.declared.head.Head.{Head}
 use Rattle.layout.specs.Memory.{list_of, model_of, sound_of}
+use Rattle.laws.proofs.Shows.{length_seen}
 use Rattle.items.specs.Calls.{Length, told as length_told, length_of}
 use Rattle.layout.proofs.Soundness.{sound-parts}
 use Rattle.layout.proofs.Models.{model-sound, used-length}
@@ -26,19 +27,12 @@ use Rattle.runs.specs.Answers.{Count, told, written, answer}
 use Rattle.ranges.specs.Texts.{visible_in, text_in, text_answer, showing, Reads}
 use Rattle.runs.proofs.Fronts.{drop-none}
 use Rattle.runs.proofs.Tallies.{start-stands}
-use Rattle.ranges.proofs.Texts.{shown_of, shown-cons, length-shown}
+use Rattle.ranges.proofs.Texts.{shown_of, shown-cons}
 
 -- ---- how long, and where it is read
 
 length-visible : (u : List ℕ) (l : List Item) → length (visible_units u l) ≡ visible l
-length-visible u [] = refl
-length-visible u (i ∷ l) =
-    ap length (shown-cons u i l)
-    ∙ simp length-append (ap₂ ◌+◌ (length-shown u i.flags.dead i.what ∙ go i.flags.dead (width i.what)) (length-visible u l))
-  where
-    go : (d : Bool) (n : ℕ) → cond d 0 n ≡ cond (not d) n 0
-    go true n = refl
-    go false n = refl
+length-visible u l = length_seen (record { items = l; units = u; next = 0 })
 
 module _ (h : Head) (m u : List ℕ) where
   pub text-long : (i n : ℕ) → length (text_in h m u i n) ≡ min n (visible (list_of h m) - i)

@@ -14,6 +14,8 @@ use Rattle.rules.specs.Sound.{Fits, AllFit}
 use Rattle.rules.specs.Calls.{unit_at, visible_units}
 use Rattle.layout.specs.declared.word.Content.{Content}
 use Rattle.layout.specs.declared.word.Content.TheVariants.{Text}
+use Rattle.std.proofs.lemmas.List.{map-append, length-map}
+use Rattle.laws.proofs.Lists.{length-glyphs}
 use Rattle.layout.specs.Word.{what_of}
 use Rattle.layout.specs.Chain.{chain, item_at, next_at}
 use Rattle.layout.proofs.Links.{walks-lt, walks_next, chain-step}
@@ -26,21 +28,14 @@ abbrev pub shown_of : List ℕ → Bool → What → List ℕ
 shown_of u d w = map (unit_at u) (cond (not d) (glyphs w) [])
 
 units_of_lem : (u : List ℕ) (gs hs : List Glyph) → map (unit_at u) (gs ++ hs) ≡ map (unit_at u) gs ++ map (unit_at u) hs
-units_of_lem u [] hs = refl
-units_of_lem u (g ∷ gs) hs = ap (λ (l : List ℕ). unit_at u g ∷ l) (units_of_lem u gs hs)
+units_of_lem u gs hs = map-append (unit_at u) gs hs
 
 pub shown-cons : (u : List ℕ) (i : Item) (l : List Item) → visible_units u (i ∷ l) ≡ shown_of u i.flags.dead i.what ++ visible_units u l
 shown-cons u i l = units_of_lem u (cond (live i.flags) (glyphs i.what) []) (seen_glyphs l)
 
-length-piece : (u : List ℕ) (s n : ℕ) → length (map (unit_at u) (units_of s n)) ≡ n
-length-piece u s zero = refl
-length-piece u s (suc n) = ap suc (length-piece u (suc s) n)
-
 pub length-shown : (u : List ℕ) (d : Bool) (w : What) → length (shown_of u d w) ≡ shown_len d w
 length-shown u true w = refl
-length-shown u false (text s n) = length-piece u s n
-length-shown u false (embed x) = refl
-length-shown u false (mark k v) = refl
+length-shown u false w = length-map (glyphs w) (unit_at u) ∙ length-glyphs w
 
 piece-at : (u : List ℕ) (s n k : ℕ) → k < n → get_or (map (unit_at u) (units_of s n)) k 0 ≡ get_or u (s + k) 0
 piece-at u s zero k l = absurd (omega arith)
