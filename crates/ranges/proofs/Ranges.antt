@@ -10,8 +10,9 @@ use lib.Seq.{get_or-take, take_all}
 use borrow.Author.Tests.{le-leb, lt-leb, leb-true}
 use Rattle.std.specs.Prelude.{Ok, Err}
 use Rattle.refusal.specs.declared.Refusal.{Refusal}
-use Rattle.refusal.specs.declared.Refusal.TheVariants.{Short, Pair, Units, Room, Full, Long, Many, Out, Broken, Key}
+use Rattle.refusal.specs.declared.Refusal.TheVariants.{Out}
 use Rattle.refusal.specs.Numbers.{number_of}
+use Rattle.refusal.proofs.Numbered.{number-some}
 use Rattle.rules.specs.Sheet.{What, text, embed, mark, Item}
 use Rattle.rules.specs.Reading.{units_of, visible}
 use Rattle.rules.specs.Sound.{Fits, AllFit}
@@ -91,19 +92,6 @@ seen-is h m u e = units-used u h.units (list_of h m) (all_fit h m u e)
 
 -- ---- the answer
 
--- no refusal has the number 0
-refused-number : (r : Refusal) → 0 < number_of r
-refused-number Short = omega arith
-refused-number Pair = omega arith
-refused-number Units = omega arith
-refused-number Room = omega arith
-refused-number Full = omega arith
-refused-number Long = omega arith
-refused-number Many = omega arith
-refused-number Out = omega arith
-refused-number Broken = omega arith
-refused-number Key = omega arith
-
 module _ (h : Head) (m u : List ℕ) (i n room : ℕ) where
   -- there is no length
   pub plan-broken : (e : Refusal) → length_told (Err e) ≡ length_of h m u → told (Err e) ≡ text_answer h m u i n room
@@ -111,7 +99,7 @@ module _ (h : Head) (m u : List ℕ) (i n room : ℕ) where
   plan-broken e is = go (sound_of h m u) refl
     where
       go : (b : Bool) → sound_of h m u ≡ b → told (Err e) ≡ text_answer h m u i n room
-      go true q = absurd (omega (arith, refused-number e, ap (λ (l : Length). l.refusal) (rw q at is)))
+      go true q = absurd (number-some e (ap (λ (l : Length). l.refusal) (rw q at is)))
       go false q = rw q (ap (λ (l : Length). answer l.refusal 0) (rw q at is))
 
   -- there is one
@@ -134,7 +122,7 @@ module _ (h : Head) (m u : List ℕ) (i n room : ℕ) where
       where
         go : (b : Bool) → bad_range (visible_in h m u) i n ≡ b → told (Err f) ≡ text_answer h m u i n room
         go true q = rw (e, q) (ap (λ (x : ℕ). answer x 0) (rw q at (is ∙ bad-is)))
-        go false q = let z : number_of f ≡ 0 = rw q at (is ∙ bad-is) in absurd (omega (arith, refused-number f, z))
+        go false q = absurd (number-some f (rw q at (is ∙ bad-is)))
 
     -- none does
     module _ (is : ◌≡◌ {A = ℕ} 0 (cond (bad_range (seen (model_of h m u)) i n) 2 0)) (k : ℕ) (long : k ≡ min n (visible (list_of h m) - i)) where
