@@ -1,28 +1,24 @@
 -- Joining from the right is joining as one reads: a run that is put ahead of a run that was put ahead. Assumes nothing.
 use Prim.Native.Nat.{ℕ}
 use mathlib.Core.Path.{◌≡◌, refl, sym, ap, ◌∙◌}
-use mathlib.Core.Bool.{Bool, true, false, cond, ◌&&◌, true≢false}
+use mathlib.Core.Bool.{Bool, true, false, cond, ◌&&◌}
 use mathlib.Core.List.{List, [], ◌∷◌, ◌++◌, append_assoc, append-nil}
 use lib.Dec.{eqb}
 use borrow.Author.Tests.{eqb-true, eq-eqb}
 use Rattle.sets.specs.Sets.{Env, keys, same_force}
 use Rattle.rules.specs.Sheet.{What, text, embed, mark, Item}
 use Rattle.rules.specs.Reading.{Glyph, units_of}
+use Rattle.laws.proofs.Lists.{and_left, and_right}
 use Rattle.rules.specs.Runs.{Chunk, words, object, Run, runs_from, is_text, mergeable, merged, ahead, joined}
 
 -- ---- what is the same in force
-
-both : (a b : Bool) → (a && b) ≡ true → (a ≡ true) × (b ≡ true)
-both true b p = (refl, p)
-both false b p = absurd (true≢false (sym p))
 
 -- what is the same as e is the same as what e is the same as
 same-right : (ks : List ℕ) (d e f : Env) → same_force ks e f ≡ true → same_force ks d f ≡ same_force ks d e
 same-right [] d e f h = refl
 same-right (k ∷ ks) d e f h =
-    let p = both (eqb (e k) (f k)) (same_force ks e f) h in
-    let q : e k ≡ f k = eqb-true (e k) (f k) p.0 in
-    ap (λ (x : ℕ). eqb (d k) x && same_force ks d f) (sym q) ∙ ap (λ (b : Bool). eqb (d k) (e k) && b) (same-right ks d e f p.1)
+    let q : e k ≡ f k = eqb-true (e k) (f k) (and_left (eqb (e k) (f k)) (same_force ks e f) h) in
+    ap (λ (x : ℕ). eqb (d k) x && same_force ks d f) (sym q) ∙ ap (λ (b : Bool). eqb (d k) (e k) && b) (same-right ks d e f (and_right (eqb (e k) (f k)) (same_force ks e f) h))
 
 pub same_refl : (ks : List ℕ) (e : Env) → same_force ks e e ≡ true
 same_refl [] e = refl

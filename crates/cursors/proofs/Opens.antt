@@ -12,6 +12,7 @@ use Rattle.rules.specs.Sheet.{What, text, embed, mark, Item}
 use Rattle.rules.specs.Reading.{live, pass_key, Glyph, unit, units_of, glyphs}
 use Rattle.rules.specs.Sound.{Fits}
 use Rattle.rules.specs.Runs.{Run as Stretch, object, runs_from, ahead, joined}
+use Rattle.laws.proofs.Lists.{length-glyphs}
 use Rattle.layout.specs.Word.{shown_len}
 use Rattle.cursors.specs.declared.run.Run.{Run}
 use Rattle.cursors.specs.declared.walk.Spot.{Spot}
@@ -19,7 +20,7 @@ use Rattle.cursors.specs.Records.{records_of, runs_by}
 use Rattle.cursors.specs.Cursors.{mark_on, passed_by, stops_at, ends_by, rest, records_at, Plain, Stands, text_record}
 use Rattle.cursors.proofs.Merges.{stretch, same_refl, ahead-ahead, open-ahead}
 use Rattle.cursors.proofs.Forces.{env-passed, same-plain, same-is}
-use Rattle.cursors.proofs.Spots.{here, next, rest-next, rest-none, steps, text-record, length-units}
+use Rattle.cursors.proofs.Spots.{here, next, rest-next, rest-none, steps, text-record}
 
 -- The runs from here on, with the text gs open since f was in force; e is in force now.
 unfoldable pub opened : Bool → List Glyph → Env → Env → List Item → List Stretch
@@ -111,9 +112,7 @@ pub record Open (j : Bool) (m : List ℕ) (f : Attrs) (a : ℕ) (s : Spot) (answ
 seen-long : (d : Bool) (w : What) → length (seen_of d w) ≡ shown_len d w
 unfolding seen_of
 seen-long true w = refl
-seen-long false (text a n) = length-units a n
-seen-long false (embed x) = refl
-seen-long false (mark k v) = refl
+seen-long false w = length-glyphs w
 
 -- a plain run goes on over no mark, so what is in force stays
 still : (c : Attrs) (j same d : Bool) (w : What) → cond d false (stops_at j same w) ≡ false → j ≡ false → c ≡ passed_by c d w

@@ -18,6 +18,7 @@ use Rattle.layout.specs.declared.word.Item.{Item as Entry}
 use Rattle.layout.specs.Word.{shown_len}
 use Rattle.layout.specs.Word.{what_of, unpack_of}
 use Rattle.layout.specs.Chain.{chain, item_at, next_at}
+use Rattle.laws.proofs.Lists.{length-units}
 use Rattle.layout.proofs.Links.{walks-lt, walks_next, chain-step}
 use Rattle.cursors.specs.declared.run.Run.{Run}
 use Rattle.cursors.specs.declared.walk.Spot.{Spot}
@@ -171,10 +172,6 @@ module _ (j : Bool) (m : List ℕ) (s : Spot) (st : Stands m s) (h : 0 < s.todo)
   text-here a n is =
       ap (λ (l : List Item). records_of s.passed (runs_by j (runs_from [] (env_of s.force) l))) (rest_live m s (text a n) awake is h)
       ∙ ap (λ (t : Spot). records_of s.passed (runs_by j (runs_from (units_of a n) (env_of t.force) (rest m (next m s))))) (sym (next-live m s (text a n) awake is))
-
-pub length-units : (a n : ℕ) → length (units_of a n) ≡ n
-length-units a zero = refl
-length-units a (suc n) = ap suc (length-units (suc a) n)
 
 pub units-some : (a n : ℕ) → 0 < n → units_of a n ≡ unit a ∷ units_of (suc a) (n - 1)
 units-some a zero h = absurd (omega arith)

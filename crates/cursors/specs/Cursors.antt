@@ -1,5 +1,6 @@
 -- The walk from run to run: what each item does to it, and what is found.
 use Rattle.std.specs.Prelude.{ℕ, ◌+◌, ◌-◌, ◌<◌, ◌≤◌, ◌≡◌, Bool, true, false, cond, not, ◌||◌, List, ◌∷◌, length}
+use Rattle.std.specs.Iterator.{Count, at_most}
 use Rattle.sets.specs.Sets.{empty, keys, as_set, same_sets, present}
 use Rattle.attrs.specs.Packed.{says, env_of, packed, update_at}
 use Rattle.attrs.specs.declared.Attrs.{Attrs}
@@ -101,3 +102,17 @@ pub record Gathered (j : Bool) (m : List ℕ) (s r : Spot) : Type 0 where
 -- What an iterator over the runs has left.
 abbrev pub left : Runs → List Run
 left s = records_at s.joined s.items.now s.spot
+
+-- Where it may be asked for the next run, and how many runs come at most: each takes an item.
+abbrev pub Ready : Runs → Type 0
+Ready s = Stands s.items.now s.spot
+
+abbrev pub items_ahead : Runs → Count
+items_ahead s = at_most s.spot.todo
+
+-- What stays when it is asked, also where there is no run: it may be asked again, over the same list.
+pub record Stays (s t : Runs) : Type 0 where
+  pub ready : Ready t
+  pub items : t.items.now ≡ s.items.now
+  pub joined : t.joined ≡ s.joined
+  pub fewer : t.spot.todo ≤ s.spot.todo

@@ -4,8 +4,8 @@ ghost use Rattle.cursors.specs.Records.{blank};
 
 use attrs::Attrs;
 
-// `start` and `len` count visible units. `number` is the embed's, 0 for a text. `attrs` holds what is in force and not null, and
-// `count` is how many keys that are.
+// `start` and `len` count visible units. `number` is the embed's, 0 for a text: `Listed` of `demands` reads the two apart.
+// `attrs` holds what is in force and not null, and `count` is how many keys that are.
 #[derive(Clone, Copy)]
 pub struct Run {
     pub embed: bool,

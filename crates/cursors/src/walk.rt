@@ -1,8 +1,8 @@
 // The runs of a list, one after the other: each goes on where the run before ended.
 ghost use Rattle.std.specs.Prelude.{◌≡◌, ◌+◌, ◌<◌};
-ghost use Rattle.std.specs.Iterator.{YieldsFirst, at_most};
+ghost use Rattle.std.specs.Iterator.{YieldsFirst, MakesProgress};
 ghost use Rattle.layout.specs.Word.{what_of, shown_len};
-ghost use Rattle.cursors.specs.Cursors.{passes_of, passed_by, ends_by, past_of, text_record, start_of, left, Stands, Skipped, Gathered};
+ghost use Rattle.cursors.specs.Cursors.{passes_of, passed_by, ends_by, past_of, text_record, start_of, left, items_ahead, Ready, Stays, Stands, Skipped, Gathered};
 
 use crate::run::Run;
 use attrs::Attrs;
@@ -10,6 +10,7 @@ use layout::head::Head;
 use layout::word::{Content, Item, is_mark, shown_len, unpack};
 
 // A place in the list: the next item and how many are left with it, the visible units to its left, and what is in force there.
+// (A place of `arena` has the item to its left in place of the units: links are put in there, and no units are counted.)
 #[derive(Clone, Copy)]
 pub struct Spot {
     pub at: u32,
@@ -58,14 +59,18 @@ impl<'a> Runs<'a> {
 impl<'a> Iterator for Runs<'a> {
     type Item = Run;
 
-    ghost can_next = { λ s. Stands s.items.now s.spot };
+    ghost can_next = { Ready };
 
     ghost next_gives = { YieldsFirst left };
 
-    // A run takes an item at least.
-    ghost remaining = { λ s. at_most s.spot.todo };
+    ghost remaining = { items_ahead };
 
-    fn next(&mut self) -> Option<Run> {
+    fn next(&mut self) -> Option<Run>
+        requires { Ready self.old }
+        ensures steps { YieldsFirst left self.old result self.new }
+        ensures goes { MakesProgress Ready items_ahead self.old result self.new }
+        ensures stays { Stays self.old self.new }
+    {
         let from = skip(self.items, self.spot);
         self.spot = from;
         if from.todo == 0 {

@@ -6,23 +6,21 @@ use native.Mathlib.Omega.{arith}
 use mathlib.Core.Path.{◌≡◌, refl, sym, ap, ap₂, subst, ◌∙◌}
 use mathlib.Core.Bool.{Bool, true, false, cond, not}
 use mathlib.Core.List.{List, [], ◌∷◌, ◌++◌, map}
-use lib.ListN.{length, get_or, drop, set, length-append, get_or-append}
-use lib.Seq.{drop-cons, drop-append-add, drop-drop, drop-nil}
+use lib.ListN.{length, get_or, drop, length-append, get_or-append}
+use lib.Seq.{drop-cons, drop-append-add, drop-nil}
 use Rattle.rules.specs.Sheet.{What, text, embed, mark, width, Item}
 use Rattle.rules.specs.Reading.{Glyph, units_of, glyphs, live, seen_glyphs}
 use Rattle.rules.specs.Sound.{Fits, AllFit}
 use Rattle.rules.specs.Calls.{unit_at, visible_units}
 use Rattle.layout.specs.declared.word.Content.{Content}
 use Rattle.layout.specs.declared.word.Content.TheVariants.{Text}
+use Rattle.std.proofs.lemmas.List.{map-append, length-map}
+use Rattle.laws.proofs.Lists.{length-glyphs}
 use Rattle.layout.specs.Word.{what_of}
 use Rattle.layout.specs.Chain.{chain, item_at, next_at}
 use Rattle.layout.proofs.Links.{walks-lt, walks_next, chain-step}
-use Rattle.ranges.specs.declared.Place.{Place}
-use Rattle.ranges.specs.declared.Shown.{Shown}
 use Rattle.layout.specs.Word.{shown_len}
-use Rattle.runs.specs.Answers.{written}
-use Rattle.ranges.specs.Texts.{unit_in, showing, LiesIn, Reads, Given}
-use Rattle.runs.proofs.Fronts.{written-more}
+use Rattle.ranges.specs.Texts.{unit_in, showing, LiesIn, Reads}
 
 -- ---- one item
 
@@ -30,21 +28,14 @@ abbrev pub shown_of : List ℕ → Bool → What → List ℕ
 shown_of u d w = map (unit_at u) (cond (not d) (glyphs w) [])
 
 units_of_lem : (u : List ℕ) (gs hs : List Glyph) → map (unit_at u) (gs ++ hs) ≡ map (unit_at u) gs ++ map (unit_at u) hs
-units_of_lem u [] hs = refl
-units_of_lem u (g ∷ gs) hs = ap (λ (l : List ℕ). unit_at u g ∷ l) (units_of_lem u gs hs)
+units_of_lem u gs hs = map-append (unit_at u) gs hs
 
 pub shown-cons : (u : List ℕ) (i : Item) (l : List Item) → visible_units u (i ∷ l) ≡ shown_of u i.flags.dead i.what ++ visible_units u l
 shown-cons u i l = units_of_lem u (cond (live i.flags) (glyphs i.what) []) (seen_glyphs l)
 
-length-piece : (u : List ℕ) (s n : ℕ) → length (map (unit_at u) (units_of s n)) ≡ n
-length-piece u s zero = refl
-length-piece u s (suc n) = ap suc (length-piece u (suc s) n)
-
 pub length-shown : (u : List ℕ) (d : Bool) (w : What) → length (shown_of u d w) ≡ shown_len d w
 length-shown u true w = refl
-length-shown u false (text s n) = length-piece u s n
-length-shown u false (embed x) = refl
-length-shown u false (mark k v) = refl
+length-shown u false w = length-map (glyphs w) (unit_at u) ∙ length-glyphs w
 
 piece-at : (u : List ℕ) (s n k : ℕ) → k < n → get_or (map (unit_at u) (units_of s n)) k 0 ≡ get_or u (s + k) 0
 piece-at u s zero k l = absurd (omega arith)
@@ -72,36 +63,23 @@ lies_in used long (mark k v) l f = tt
 
 -- ---- a place
 
-abbrev pub place : ℕ → ℕ → ℕ → Place
-place at todo off = record { at = at; todo = todo; off = off }
-
-module _ (m u : List ℕ) (at todo off : ℕ) where
-  pub reads_at : (more : ℕ) → Reads m u (place at todo off) → Reads m u (place at todo more)
-  reads_at more r = record { used = r.used; walk = r.walk; fit = r.fit; room = r.room }
-
-  pub reads_none : todo ≡ 0 → Reads m u (place at todo off) → Reads m u (place at 0 0)
-  reads_none e r = reads-at' (subst (λ (k : ℕ). Reads m u (place at k off)) e r)
-    where
-      reads-at' : Reads m u (place at 0 off) → Reads m u (place at 0 0)
-      reads-at' q = record { used = q.used; walk = q.walk; fit = q.fit; room = q.room }
-
-  pub shows-none : todo ≡ 0 → showing m u (place at todo off) ≡ []
+module _ (m u : List ℕ) (at todo : ℕ) where
+  pub shows-none : (off : ℕ) → todo ≡ 0 → showing m u at todo off ≡ []
   unfolding showing chain
-  shows-none e = rw e (drop-nil off)
+  shows-none off e = rw e (drop-nil off)
 
   module _ (some : 0 < todo) where
-    fit-here : (r : Reads m u (place at todo off)) → AllFit r.used (item_at m at ∷ chain (todo - 1) m (next_at m at))
+    fit-here : (r : Reads m u at todo) → AllFit r.used (item_at m at ∷ chain (todo - 1) m (next_at m at))
     fit-here r = subst (AllFit r.used) (chain-step todo m at some) r.fit
 
-    pub reads-below : Reads m u (place at todo off) → at < length m
+    pub reads-below : Reads m u at todo → at < length m
     reads-below r = walks-lt (length m) todo m at some r.walk
 
-    pub reads-lies : Reads m u (place at todo off) → LiesIn (length u) (item_at m at).what
+    pub reads-lies : Reads m u at todo → LiesIn (length u) (item_at m at).what
     reads-lies r = lies_in r.used (length u) (item_at m at).what r.room (fit-here r).1
 
-    pub reads-next : (more : ℕ) → Reads m u (place at todo off) → Reads m u (place (next_at m at) (todo - 1) more)
-    reads-next more r =
-        record { used = r.used; walk = walks_next (length m) todo m at some r.walk; fit = (fit-here r).2; room = r.room }
+    pub reads-next : Reads m u at todo → Reads m u (next_at m at) (todo - 1)
+    reads-next r = record { used = r.used; walk = walks_next (length m) todo m at some r.walk; fit = (fit-here r).2; room = r.room }
 
     abbrev here : List ℕ
     here = shown_of u (item_at m at).flags.dead (item_at m at).what
@@ -115,33 +93,26 @@ module _ (m u : List ℕ) (at todo off : ℕ) where
     long : length here ≡ shown_len (item_at m at).flags.dead (item_at m at).what
     long = length-shown u (item_at m at).flags.dead (item_at m at).what
 
-    pub shows-pass : shown_len (item_at m at).flags.dead (item_at m at).what ≤ off
-        → showing m u (place at todo off) ≡ showing m u (place (next_at m at) (todo - 1) (off - shown_len (item_at m at).flags.dead (item_at m at).what))
-    unfolding showing
-    shows-pass l =
-        let w = shown_len (item_at m at).flags.dead (item_at m at).what in
-        let e : off ≡ length here + (off - w) = omega (arith, long) in
-        ap₂ drop e shows-cons ∙ drop-append-add here left (off - w)
+    module _ (off : ℕ) where
+      pub shows-pass : shown_len (item_at m at).flags.dead (item_at m at).what ≤ off
+          → showing m u at todo off ≡ showing m u (next_at m at) (todo - 1) (off - shown_len (item_at m at).flags.dead (item_at m at).what)
+      unfolding showing
+      shows-pass l =
+          let w = shown_len (item_at m at).flags.dead (item_at m at).what in
+          let e : off ≡ length here + (off - w) = omega (arith, long) in
+          ap₂ drop e shows-cons ∙ drop-append-add here left (off - w)
 
-    pub shows-here : off < shown_len (item_at m at).flags.dead (item_at m at).what
-        → showing m u (place at todo off) ≡ unit_in u (item_at m at).what off ∷ showing m u (place at todo (off + 1))
-    unfolding showing
-    shows-here l =
-        let v : off < length (visible_units u (chain todo m at)) = rw shows-cons (simp length-append (omega (arith, long))) in
-        let first : get_or (visible_units u (chain todo m at)) off 0 ≡ unit_in u (item_at m at).what off =
-        ap (λ (x : List ℕ). get_or x off 0) shows-cons
-        ∙ get_or-append here left 0 off (omega (arith, long))
-        ∙ shown-at u (item_at m at).flags.dead (item_at m at).what off l in
-        drop-cons (visible_units u (chain todo m at)) off 0 v
-        ∙ ap₂ (λ (x k : ℕ). x ∷ drop k (visible_units u (chain todo m at))) first (sym (add-one off))
-
--- a unit, and none
-module _ (m u : List ℕ) (p : Place) where
-  pub given-here : (r : Shown) → Reads m u r.place → showing m u p ≡ r.unit ∷ showing m u r.place → Given m u p r
-  given-here r d e = record { reads = d; unit = sym (ap (λ (l : List ℕ). get_or l 0 0) e); after = sym (ap (drop 1) e) }
-
-  pub given-none : (r : Shown) → Reads m u r.place → showing m u p ≡ [] → r.unit ≡ 0 → showing m u r.place ≡ [] → Given m u p r
-  given-none r d e z f = record { reads = d; unit = z ∙ sym (ap (λ (l : List ℕ). get_or l 0 0) e); after = f ∙ sym (ap (drop 1) e) }
+      pub shows-here : off < shown_len (item_at m at).flags.dead (item_at m at).what
+          → showing m u at todo off ≡ unit_in u (item_at m at).what off ∷ showing m u at todo (off + 1)
+      unfolding showing
+      shows-here l =
+          let v : off < length (visible_units u (chain todo m at)) = rw shows-cons (simp length-append (omega (arith, long))) in
+          let first : get_or (visible_units u (chain todo m at)) off 0 ≡ unit_in u (item_at m at).what off =
+          ap (λ (x : List ℕ). get_or x off 0) shows-cons
+          ∙ get_or-append here left 0 off (omega (arith, long))
+          ∙ shown-at u (item_at m at).flags.dead (item_at m at).what off l in
+          drop-cons (visible_units u (chain todo m at)) off 0 v
+          ∙ ap₂ (λ (x k : ℕ). x ∷ drop k (visible_units u (chain todo m at))) first (sym (add-one off))
 
 -- a unit of a text lies in the units
 pub in-piece : (c : Content) (s n k long : ℕ) → c ≡ Text s n → LiesIn long (what_of c) → k < width (what_of c) → s + k < long
@@ -149,16 +120,3 @@ in-piece c s n k long e l h =
     let l' : s + n ≤ long = subst (λ (x : Content). LiesIn long (what_of x)) e l in
     let h' : k < n = subst (λ (x : Content). k < width (what_of x)) e h in
     omega arith
-
--- ---- a copy
-
-module _ (m u rs ys : List ℕ) (p : Place) (i : ℕ) (r : Shown) (g : Given m u p r) (at : showing m u p ≡ drop i rs) where
-  pub copy-left : showing m u r.place ≡ drop (i + 1) rs
-  copy-left = g.after ∙ ap (drop 1) at ∙ drop-drop 1 i rs
-
-  pub copy_more : (out : List ℕ) → out ≡ written rs i ys → i < length rs → i < length ys → set out i r.unit ≡ written rs (i + 1) ys
-  copy_more out e a b =
-      let cons = drop-cons rs i 0 a in
-      let first : r.unit ≡ get_or rs i 0 = g.unit ∙ ap (λ (l : List ℕ). get_or l 0 0) (at ∙ cons) in
-      ap (λ (l : List ℕ). set l i r.unit) e
-      ∙ written-more rs ys i r.unit (drop (suc i) rs) a b (cons ∙ ap (λ (x : ℕ). x ∷ drop (suc i) rs) (sym first))

@@ -6,10 +6,8 @@ use Rattle.rules.specs.Calls.{visible_units, bad_range}
 use Rattle.layout.specs.declared.head.Head.{Head}
 use Rattle.layout.specs.Chain.{chain, walks}
 use Rattle.layout.specs.Memory.{list_of, sound_of}
-use Rattle.runs.specs.declared.calls.Count.{Count}
-use Rattle.ranges.specs.declared.Place.{Place}
-use Rattle.ranges.specs.declared.Shown.{Shown}
-use Rattle.runs.specs.Answers.{written, answer}
+use Rattle.ranges.specs.declared.Seen.{Seen}
+use Rattle.runs.specs.Answers.{Count, written, answer}
 
 -- What the sheet shows, an embed as a unit 0 ..
 unfoldable pub visible_in : Head → List ℕ → List ℕ → List ℕ
@@ -39,9 +37,12 @@ unit_in u (text s n) k = get_or u (s + k) 0
 unit_in u (embed x) k = 0
 unit_in u (mark j v) k = 0
 
--- What is left to show from a place.
-unfoldable pub showing : List ℕ → List ℕ → Place → List ℕ
-showing m u p = drop p.off (visible_units u (chain p.todo m p.at))
+-- What is left to show from an item on, `todo` items with it, of which so many units are passed over.
+unfoldable pub showing : List ℕ → List ℕ → ℕ → ℕ → ℕ → List ℕ
+showing m u at todo off = drop off (visible_units u (chain todo m at))
+
+abbrev pub left : Seen → List ℕ
+left s = showing s.items.now s.units.now s.at s.todo s.off
 
 -- A text lies in so many units.
 abbrev pub LiesIn : ℕ → What → Type 0
@@ -49,14 +50,9 @@ LiesIn long (text s n) = s + n ≤ long
 LiesIn long (embed x) = Unit {0}
 LiesIn long (mark k v) = Unit {0}
 
-pub record Reads (m u : List ℕ) (p : Place) : Type 0 where
+-- The links go on to the end, and the texts lie in the units.
+pub record Reads (m u : List ℕ) (at todo : ℕ) : Type 0 where
   pub used : ℕ
-  pub walk : walks (length m) p.todo m p.at ≡ true
-  pub fit : AllFit used (chain p.todo m p.at)
+  pub walk : walks (length m) todo m at ≡ true
+  pub fit : AllFit used (chain todo m at)
   pub room : used ≤ length u
-
--- The next unit, 0 where there is none, and the place behind it.
-pub record Given (m u : List ℕ) (p : Place) (r : Shown) : Type 0 where
-  pub reads : Reads m u r.place
-  pub unit : r.unit ≡ get_or (showing m u p) 0 0
-  pub after : showing m u r.place ≡ drop 1 (showing m u p)

@@ -1,139 +1,86 @@
 // The visible units of a range, copied out: so a run's text can be had by its start and length.
 #![tactic(auto)]
 
-ghost use Rattle.std.specs.Prelude.{◌≡◌, ◌-◌, ◌<◌, ◌≤◌, min, length};
+ghost use Rattle.std.specs.Prelude.{◌≡◌, ◌<◌, length};
+ghost use Rattle.std.specs.Iterator.{YieldsFirst, item_count};
 ghost use Rattle.layout.specs.Word.{what_of};
-ghost use Rattle.runs.specs.Answers.{written};
 ghost use Rattle.rules.specs.Sheet.{width as width_of};
-ghost use Rattle.ranges.specs.Texts.{unit_in, showing, text_answer, Reads, Given, LiesIn, Copied};
+ghost use Rattle.runs.specs.Answers.{told};
+ghost use Rattle.ranges.specs.Texts.{unit_in, left, text_answer, Reads, LiesIn, Copied};
 
 use layout::head::Head;
 use layout::word::{Content, shown_len, unpack};
+use refusal::Refusal;
 use refusals::range_fault;
-use runs::calls::Count;
 
-// How many items are left from `at`, and how many visible units from there are passed over.
-#[derive(Clone, Copy)]
-pub struct Place {
-    pub at: u32,
-    pub todo: u32,
-    pub off: u64,
+// The visible units from a place on, an embed as a unit 0: the next item, how many are left with it, and how many visible units
+// from there on are passed over.
+#[derive(Drop)]
+struct Seen<'a> {
+    items: &'a [u64],
+    units: &'a [u16],
+    at: u32,
+    todo: u32,
+    off: u64,
 }
 
-// A visible unit, 0 where there is none, and the place behind it.
-#[derive(Clone, Copy)]
-pub struct Shown {
-    pub place: Place,
-    pub unit: u16,
+impl<'a> Iterator for Seen<'a> {
+    type Item = u16;
+
+    ghost can_next = { λ s. Reads s.items.now s.units.now s.at s.todo };
+
+    ghost next_gives = { YieldsFirst left };
+
+    ghost remaining = { item_count left };
+
+    // The count of the items that are left is the iterator's own, for the call after this one.
+    fn next(&mut self) -> Option<u16> {
+        while self.todo > 0 {
+            let it = unpack(self.items[self.at as usize]);
+            let w = u64::from(shown_len(it));
+            if self.off < w {
+                let unit = unit_in(self.units, it.content, self.off);
+                self.off += 1;
+                return Some(unit);
+            }
+            self.off -= w;
+            self.at = it.next;
+            self.todo -= 1;
+        }
+        None
+    }
 }
 
+#[tactic(auto, unfolding(crate::specs::Texts::unit_in))]
 fn unit_in(units: &[u16], c: Content, k: u64) -> u16
     requires lies_in { LiesIn (length units.now) (what_of c) }
     requires k_bound { k < width_of (what_of c) }
     ensures { result ≡ unit_in units.now (what_of c) k }
 {
     match c {
-        Content::Text { start, len: _ } => {
-            let i = start as usize + k as usize;
-            units[i]
-        }
-        Content::Embed(_) => 0,
-        Content::Mark { key: _, value: _ } => 0,
+        Content::Text { start, .. } => units[start as usize + k as usize],
+        Content::Embed(_) | Content::Mark { .. } => 0,
     }
 }
 
-fn next_unit(items: &[u64], units: &[u16], from: Place) -> Shown
-    requires { Reads items.now units.now from }
-    ensures { Given items.now units.now from result }
+// How many units are answered where there is room for so many.
+fn plan(
+    h: Head,
+    items: &[u64],
+    units: &[u16],
+    index: u32,
+    len: u32,
+    room: usize,
+) -> Result<usize, Refusal>
+    ensures { told result ≡ text_answer h items.now units.now index len room }
 {
-    let mut at = from.at;
-    let mut todo = from.todo;
-    let mut off = from.off;
-    while todo > 0 {
-        let i = at as usize;
-        let it = unpack(items[i]);
-        let w = shown_len(it) as u64;
-        if off < w {
-            let c = it.content;
-            let place = Place {
-                at,
-                todo,
-                off: off + 1,
-            };
-            return Shown {
-                place,
-                unit: unit_in(units, c, off),
-            };
-        }
-        off -= w;
-        at = it.next;
-        todo -= 1;
+    let all = items::len(h, items, units)?;
+    range_fault(h, items, units, index, len)?;
+    let count = len.min(all.saturating_sub(index)) as usize;
+    if count > room {
+        return Err(Refusal::Out);
     }
-    let place = Place {
-        at,
-        todo: 0,
-        off: 0,
-    };
-    Shown { place, unit: 0 }
-}
-
-fn copy_out(items: &[u64], units: &[u16], from: Place, n: usize, out: &mut [u16])
-    requires reads { Reads items.now units.now from }
-    requires n_in_bounds { (n ≤ length (showing items.now units.now from)) × (n ≤ length out.old) }
-    ensures { out.new ≡ written (showing items.now units.now from) n out.old }
-{
-    let mut place = from;
-    let mut i = 0;
-    while i < n {
-        let s = next_unit(items, units, place);
-        out[i] = s.unit;
-        place = s.place;
-        i += 1;
-    }
-}
-
-// How much of `len` lies inside `all` from `index` on.
-fn span(all: u32, index: u32, len: u32) -> u32
-    ensures { result ≡ min len (all - index) }
-{
-    if all < index {
-        return 0;
-    }
-    if all - index < len {
-        return all - index;
-    }
-    len
-}
-
-// What is answered where there is room for so many units.
-fn plan(h: Head, items: &[u64], units: &[u16], index: u32, len: u32, room: usize) -> Count
-    ensures { result ≡ text_answer h items.now units.now index len room }
-{
-    let all = items::len(h, items, units);
-    if all.refusal != 0 {
-        return Count {
-            refusal: 9,
-            count: 0,
-        };
-    }
-    let fault = range_fault(h, items, units, index, len);
-    if fault != 0 {
-        return Count {
-            refusal: fault,
-            count: 0,
-        };
-    }
-    let n = span(all.len, index, len) as usize;
-    if n > room {
-        return Count {
-            refusal: 8,
-            count: 0,
-        };
-    }
-    Count {
-        refusal: 0,
-        count: n,
-    }
+    Ok(count)
 }
 
 // An embed is written as a unit 0. A range that reaches past the visible text ends with it.
@@ -144,18 +91,19 @@ pub fn text_of_range(
     index: u32,
     len: u32,
     out: &mut [u16],
-) -> Count
-    ensures { Copied h items.now units.now index len out.old out.new result }
+) -> Result<usize, Refusal>
+    ensures { Copied h items.now units.now index len out.old out.new (told result) }
 {
-    let answer = plan(h, items, units, index, len, out.len());
-    if answer.refusal != 0 {
-        return answer;
-    }
-    let place = Place {
+    let count = plan(h, items, units, index, len, out.len())?;
+    let seen = Seen {
+        items,
+        units,
         at: h.first,
         todo: h.items,
-        off: index as u64,
+        off: u64::from(index),
     };
-    copy_out(items, units, place, answer.count, out);
-    answer
+    for (i, unit) in seen.take(count).enumerate() {
+        out[i] = unit;
+    }
+    Ok(count)
 }

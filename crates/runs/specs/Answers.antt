@@ -10,7 +10,7 @@ use Rattle.layout.specs.Memory.{list_of, sound_of}
 use Rattle.cursors.specs.declared.run.Run.{Run}
 use Rattle.cursors.specs.declared.walk.Runs.{Runs}
 use Rattle.cursors.specs.Records.{blank, records}
-use Rattle.cursors.specs.Cursors.{left, Stands}
+use Rattle.cursors.specs.Cursors.{left, Ready}
 
 -- The first n of a list over the first n places of another; what lies behind them stays.
 abbrev pub written : {A : Type 0} → List A → ℕ → List A → List A
@@ -66,5 +66,5 @@ run_at h m u j n = cond (sound_of h m u) (first (drop n (records_in h m j))) (no
 abbrev pub Begun : Head → List ℕ → List ℕ → Bool → Result Runs Refusal → Type 0
 Begun h m u j r =
     MatchResult r
-    (λ s. (sound_of h m u ≡ true) × Stands s.items.now s.spot × (left s ≡ records_in h m j))
+    (λ s. (sound_of h m u ≡ true) × Ready s × (left s ≡ records_in h m j))
     (λ e. (sound_of h m u ≡ false) × (e ≡ Broken))

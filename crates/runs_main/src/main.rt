@@ -2,16 +2,18 @@
 // its embed number, how many keys are in force, and the value of key 0.
 #![tactic(auto)]
 
+use std::io;
+
 mod sheets;
 mod tests;
 
-fn main() {
-    tests::empty();
-    tests::one();
-    tests::formatted();
-    tests::removed();
-    tests::embeds();
-    tests::broken();
-    tests::full();
-    tests::texts();
+fn main(rt: HostRuntime) -> io::Result<()> {
+    tests::empty(&rt)?;
+    tests::one(&rt)?;
+    tests::formatted(&rt)?;
+    tests::removed(&rt)?;
+    tests::embeds(&rt)?;
+    tests::broken(&rt)?;
+    tests::full(&rt)?;
+    tests::texts(&rt)
 }

@@ -1,11 +1,13 @@
 // Small sheets, and what is written of their runs.
 use cursors::run::Run;
 use layout::head::Head;
-use layout::word::{Content, Item};
-use runs::calls::Found;
+use layout::word::{Content, Item, pack};
+use refusal::{Refusal, number};
+use runs::calls::{count_runs, run_at};
+use std::io;
 
-pub fn word(next: u32, content: Content, dead: bool) -> u64 {
-    layout::word::pack(Item {
+fn word(next: u32, content: Content, dead: bool) -> u64 {
+    pack(Item {
         next,
         content,
         dead,
@@ -46,103 +48,68 @@ pub struct Small {
 }
 
 pub fn words_of(s: Small) -> [u64; 2048] {
-    let w = s.words;
     let mut items = [0u64; 2048];
-    items[0] = w[0];
-    items[1] = w[1];
-    items[2] = w[2];
-    items[3] = w[3];
-    items[4] = w[4];
+    items[..5].copy_from_slice(&s.words);
     items
 }
 
 pub fn units() -> [u16; 16384] {
     let mut units = [0u16; 16384];
-    units[0] = 0x61;
-    units[1] = 0x62;
-    units[2] = 0x63;
+    units[..3].copy_from_slice(&[0x61, 0x62, 0x63]);
     units
 }
 
-// Five digits and a space.
-pub fn number(n: u32) {
-    let digits = [
-        (n / 10000 % 10 + 48) as u8,
-        (n / 1000 % 10 + 48) as u8,
-        (n / 100 % 10 + 48) as u8,
-        (n / 10 % 10 + 48) as u8,
-        (n % 10 + 48) as u8,
-        32,
-    ];
-    io::write_all(1, &digits);
+// The refusal, and how many.
+pub fn answer(rt: &impl Print, answer: Result<usize, Refusal>) -> io::Result<()> {
+    print!(rt; "{:05} {:05} ", number(answer), answer.unwrap_or(0))
 }
 
-pub fn narrow(n: usize) -> u32 {
-    if n > 65535 {
-        return 65535;
+// Plain runs, then joined ones.
+fn counts(rt: &impl Print, label: &str, h: Head, items: &[u64], units: &[u16]) -> io::Result<()> {
+    print!(rt; "{label}: ")?;
+    for joined in [false, true] {
+        answer(rt, count_runs(h, items, units, joined))?;
     }
-    n as u32
+    println!(rt;)
 }
 
-// The refusal and the count of plain runs, then of joined ones.
-pub fn counts(label: &[u8], h: Head, items: &[u64], units: &[u16]) {
-    io::write_all(1, label);
-    io::write_all(1, b": ");
-    let p = runs::calls::count_runs(h, items, units, false);
-    number(p.refusal);
-    number(narrow(p.count));
-    let j = runs::calls::count_runs(h, items, units, true);
-    number(j.refusal);
-    number(narrow(j.count));
-    io::write_all(1, b"\n");
+pub fn run_line(rt: &impl Print, r: Run) -> io::Result<()> {
+    let kind = if r.embed { "embed" } else { "text" };
+    println!(rt;
+        "{kind} {:05} {:05} {:05} {:05} {:05} ",
+        r.start,
+        r.len,
+        r.number,
+        r.count,
+        r.attrs.get(0)
+    )
 }
 
-pub fn run_line(r: Run) {
-    if r.embed {
-        io::write_all(1, b"embed ");
-    } else {
-        io::write_all(1, b"text ");
-    }
-    number(r.start);
-    number(r.len);
-    number(r.number);
-    number(r.count);
-    let a = r.attrs;
-    number(a.get(0));
-    io::write_all(1, b"\n");
-}
-
-pub fn run(h: Head, items: &[u64], units: &[u16], joined: bool, n: u32) {
-    let a = runs::calls::run_at(h, items, units, joined, n);
-    let f = a.found;
-    match f {
-        Found::Here => {
-            let r = a.run;
-            run_line(r);
-        }
-        Found::Nothing => {
-            io::write_all(1, b"none\n");
-        }
-        Found::Broken => {
-            io::write_all(1, b"broken\n");
-        }
+fn run(
+    rt: &impl Print,
+    h: Head,
+    items: &[u64],
+    units: &[u16],
+    joined: bool,
+    n: u32,
+) -> io::Result<()> {
+    match run_at(h, items, units, joined, n) {
+        Ok(Some(run)) => run_line(rt, run),
+        Ok(None) => println!(rt; "none"),
+        Err(_) => println!(rt; "broken"),
     }
 }
 
-// Plain runs 0 to 3, then joined ones.
-fn lines(label: &[u8], h: Head, items: &[u64], units: &[u16]) {
-    counts(label, h, items, units);
-    run(h, items, units, false, 0);
-    run(h, items, units, false, 1);
-    run(h, items, units, false, 2);
-    run(h, items, units, false, 3);
-    run(h, items, units, true, 0);
-    run(h, items, units, true, 1);
-    run(h, items, units, true, 2);
-}
-
-pub fn tried(label: &[u8], s: Small) {
+// Plain runs 0 to 3, then joined ones 0 to 2.
+pub fn tried(rt: &impl Print, label: &str, s: Small) -> io::Result<()> {
     let items = words_of(s);
     let units = units();
-    lines(label, s.head, &items, &units);
+    counts(rt, label, s.head, &items, &units)?;
+    for n in 0..4 {
+        run(rt, s.head, &items, &units, false, n)?;
+    }
+    for n in 0..3 {
+        run(rt, s.head, &items, &units, true, n)?;
+    }
+    Ok(())
 }

@@ -1,7 +1,7 @@
 -- `cursors::walk::RunsIterator::next` meets its contract. Assumes nothing.
 use Prim.Native.Nat.{◌<◌}
 use native.Mathlib.Omega.{arith}
-use mathlib.Core.Path.{ap}
+use mathlib.Core.Path.{refl, ap}
 use Rattle.layout.specs.Word.{what_of}
 use Rattle.cursors.proofs.Spots.{Stepped, steps, next-none, next-embed, next-text}
 use Rattle.cursors.proofs.walk.RunsIterator.next.Goals as goal
@@ -36,6 +36,12 @@ returns-in-Embed-clause-goes c =
     rw (c.past-on.ensures, c.unpack-it.ensures)
     (record { on = λ _. ((stepped here).stands, tt, omega (arith, some here)); keeps = (stepped here).stands; rests = λ _. tt })
 
+pub returns-in-Embed-clause-stays : goal.returns-in-Embed-clause-stays
+returns-in-Embed-clause-stays c =
+    let here = (goal.at.returns-in-Embed-clause-stays c).Else-from-eq0 in
+    rw (c.past-on.ensures, c.unpack-it.ensures)
+    (record { ready = (stepped here).stands; items = refl; joined = refl; fewer = omega (arith, c.skip-from.ensures.fewer) })
+
 pub gather-end-requires : goal.gather-end-requires
 gather-end-requires c = rw (c.past-on.ensures, c.unpack-it.ensures) (stepped (goal.at.gather-end-requires c).Else-from-eq0).stands
 
@@ -48,4 +54,5 @@ returns c =
     record {
       steps = rw c.text_run-2.ensures (next-text _ _ _ _ c.skip-from.ensures (some here) _ unpacked c.in_default.not-Embed _ gathered);
       goes = record { on = λ _. (ends.stands, tt, omega (arith, some here)); keeps = ends.stands; rests = λ _. tt };
+      stays = record { ready = ends.stands; items = refl; joined = refl; fewer = omega (arith, c.skip-from.ensures.fewer, gathered.fewer) };
     }

@@ -1,0 +1,12 @@
+use mathlib.Core.Path.{◌≡◌}
+use Rattle.ranges.specs.Texts.{left, Reads}
+use Rattle.ranges.proofs.SeenIterator.next.Given as goal
+
+abbrev pub invariant-loop-self : goal.invariant-loop-self
+invariant-loop-self l = record {
+  reads : Reads l.self.items.now l.self.units.now l.self.at l.self.todo;
+  same : left l.initial.self ≡ left l.self;
+}
+
+abbrev pub decreases-loop-self : goal.decreases-loop-self
+decreases-loop-self l = l.self.todo

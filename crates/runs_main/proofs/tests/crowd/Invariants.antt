@@ -1,8 +1,0 @@
-use Prim.Native.Nat.{◌≤◌, ◌-◌}
-use Rattle.runs_main.proofs.tests.crowd.Given as goal
-
-abbrev pub invariant-loop-i : goal.invariant-loop-i
-invariant-loop-i l = l.i ≤ 2047
-
-abbrev pub decreases-loop-i : goal.decreases-loop-i
-decreases-loop-i l = 2047 - l.i
