@@ -1,241 +1,219 @@
 // Bench pieces over the real calls: of each, the refusal, the length, and the list item by item, each item with its number
-// (`-` behind the number: deleted).
+// (`-` behind the number: deleted). Each begins with a fresh head over the same buffers.
 #![tactic(auto)]
 
 use attrs::Attrs;
-use items::{Answer, len, text_of};
+use items::{len, text_of};
 use layout::head::Head;
 use layout::word::{Content, Item, unpack};
+use refusal::Refusal;
 use sheet::insert::{insert, insert_embed, insert_with_attributes};
 use sheet::range::{format, remove_range};
+use std::io;
 
-fn print(text: &[u8]) {
-    io::write_all(1, text);
-}
-
-fn print_number(n: u32) {
-    io::print_decimal(1, n as u64);
-}
-
-fn print_unit(unit: u16) {
-    if unit < 128 {
-        let text = [unit as u8];
-        print(&text);
-        return;
-    }
-    print(b"<");
-    io::print_hex(1, unit as u64, 4);
-    print(b">");
-}
-
-fn print_units(text: &[u16]) {
-    let mut i = 0;
-    while i < text.len() {
-        print_unit(text[i]);
-        i += 1;
-    }
-}
-
-fn print_mark(key: u32, value: u32) {
-    print_number(key);
-    print(b"=");
-    if value == 0 {
-        print(b"null");
-        return;
-    }
-    print_number(value);
-}
-
-fn print_item(n: u32, it: Item, text: &[u16]) {
-    print(b" ");
-    print_number(n);
-    if it.dead {
-        print(b"-");
-    } else {
-        print(b":");
-    }
-    let c = it.content;
-    match c {
-        Content::Text { start: _, len: _ } => print_units(text),
-        Content::Embed(e) => print_number(e),
-        Content::Mark { key, value } => print_mark(key, value),
-    }
-}
-
-fn wide(n: u32) -> usize {
-    n as usize
-}
-
-fn print_list(h: Head, items: &[u64], units: &[u16]) {
-    let mut at = h.first;
-    let mut k = h.items;
-    while k > 0 {
-        let i = wide(at);
-        if i >= items.len() {
-            return;
+fn print_units(rt: &impl Print, text: &[u16]) -> io::Result<()> {
+    for unit in text {
+        if *unit < 128 {
+            print!(rt; "{}", char::from(*unit as u8))?;
+        } else {
+            print!(rt; "<{unit:04x}>")?;
         }
-        let it = unpack(items[i]);
-        print_item(at, it, text_of(h, items, units, at));
-        at = it.next;
-        k -= 1;
+    }
+    Ok(())
+}
+
+fn print_mark(rt: &impl Print, key: u32, value: u32) -> io::Result<()> {
+    if value == 0 {
+        return print!(rt; "{key}=null");
+    }
+    print!(rt; "{key}={value}")
+}
+
+fn print_item(rt: &impl Print, n: u32, it: Item, text: &[u16]) -> io::Result<()> {
+    print!(rt; " {n}{}", if it.dead { '-' } else { ':' })?;
+    match it.content {
+        Content::Text { .. } => print_units(rt, text),
+        Content::Embed(e) => print!(rt; "{e}"),
+        Content::Mark { key, value } => print_mark(rt, key, value),
     }
 }
 
-fn report(name: &[u8], a: Answer, items: &[u64], units: &[u16]) {
-    let h = a.head;
-    print(name);
-    print(b" refused ");
-    print_number(a.refusal);
-    print(b" len ");
-    print_number(len(h, items, units).len);
-    print(b" items");
-    print_list(h, items, units);
-    print(b"\n");
+fn print_list(rt: &impl Print, h: Head, items: &[u64], units: &[u16]) -> io::Result<()> {
+    let mut at = h.first;
+    for _ in 0..h.items {
+        let Some(w) = items.get(at as usize) else {
+            return Ok(());
+        };
+        let it = unpack(*w);
+        print_item(rt, at, it, text_of(h, items, units, at))?;
+        at = it.next;
+    }
+    Ok(())
+}
+
+// `h` is the head before the call.
+fn report(
+    rt: &impl Print,
+    name: &str,
+    h: Head,
+    answer: Result<Head, Refusal>,
+    items: &[u64],
+    units: &[u16],
+) -> io::Result<()> {
+    let head = answer.unwrap_or(h);
+    let shown = len(head, items, units).unwrap_or(0);
+    print!(rt;
+        "{name} refused {} len {shown} items",
+        refusal::number(answer)
+    )?;
+    print_list(rt, head, items, units)?;
+    println!(rt;)
 }
 
 fn key_0(value: u32) -> Attrs {
-    Attrs::empty().with(0, value).attrs
+    let none = Attrs::empty();
+    none.with(0, value).unwrap_or(none)
 }
 
 fn abc(items: &mut [u64], units: &mut [u16]) -> Head {
-    let chunk = [97u16, 98, 99];
-    insert(Head::fresh(), items, units, 0, &chunk).head
+    let fresh = Head::fresh();
+    insert(fresh, items, units, 0, &[97, 98, 99]).unwrap_or(fresh)
 }
 
 // "abc" with 0=1 on a range.
 fn with_1(items: &mut [u64], units: &mut [u16], index: u32, n: u32) -> Head {
     let h = abc(items, units);
-    format(h, items, units, index, n, key_0(1)).head
+    format(h, items, units, index, n, key_0(1)).unwrap_or(h)
 }
 
 // A call and its report.
-fn inserts(name: &[u8], h: Head, items: &mut [u64], units: &mut [u16], index: u32, chunk: &[u16]) {
-    let a = insert(h, items, units, index, chunk);
-    report(name, a, items, units);
+fn inserts(
+    rt: &impl Print,
+    name: &str,
+    h: Head,
+    items: &mut [u64],
+    units: &mut [u16],
+    index: u32,
+    chunk: &[u16],
+) -> io::Result<()> {
+    let answer = insert(h, items, units, index, chunk);
+    report(rt, name, h, answer, items, units)
 }
 
-fn formats(name: &[u8], h: Head, items: &mut [u64], units: &[u16], index: u32, n: u32, value: u32) {
-    let a = format(h, items, units, index, n, key_0(value));
-    report(name, a, items, units);
+fn formats(
+    rt: &impl Print,
+    name: &str,
+    h: Head,
+    items: &mut [u64],
+    units: &[u16],
+    index: u32,
+    n: u32,
+) -> io::Result<()> {
+    let answer = format(h, items, units, index, n, key_0(1));
+    report(rt, name, h, answer, items, units)
 }
 
-fn removes(name: &[u8], h: Head, items: &mut [u64], units: &[u16], index: u32, n: u32) {
-    let a = remove_range(h, items, units, index, n);
-    report(name, a, items, units);
+fn removes(
+    rt: &impl Print,
+    name: &str,
+    h: Head,
+    items: &mut [u64],
+    units: &[u16],
+    index: u32,
+    n: u32,
+) -> io::Result<()> {
+    let answer = remove_range(h, items, units, index, n);
+    report(rt, name, h, answer, items, units)
 }
 
-fn b2() {
-    let mut items = [0u64; 2048];
-    let mut units = [0u16; 16384];
-    let h = abc(&mut items, &mut units);
-    formats(b"B2", h, &mut items, &units, 1, 1, 1);
+fn b2(rt: &impl Print, items: &mut [u64], units: &mut [u16]) -> io::Result<()> {
+    let h = abc(items, units);
+    formats(rt, "B2", h, items, units, 1, 1)
 }
 
-fn b3(index: u32) {
-    let mut items = [0u64; 2048];
-    let mut units = [0u16; 16384];
-    let x = [88u16];
-    let h = with_1(&mut items, &mut units, 1, 1);
-    inserts(b"B3", h, &mut items, &mut units, index, &x);
+fn b3(rt: &impl Print, items: &mut [u64], units: &mut [u16], index: u32) -> io::Result<()> {
+    let h = with_1(items, units, 1, 1);
+    inserts(rt, "B3", h, items, units, index, &[88])
 }
 
-fn b4() {
-    let mut items = [0u64; 2048];
-    let mut units = [0u16; 16384];
-    let x = [88u16];
-    let h = with_1(&mut items, &mut units, 1, 1);
-    let a = insert_with_attributes(h, &mut items, &mut units, 2, &x, Attrs::empty());
-    report(b"B4", a, &items, &units);
+fn b4(rt: &impl Print, items: &mut [u64], units: &mut [u16]) -> io::Result<()> {
+    let h = with_1(items, units, 1, 1);
+    let answer = insert_with_attributes(h, items, units, 2, &[88], Attrs::empty());
+    report(rt, "B4", h, answer, items, units)
 }
 
-fn b5() {
-    let mut items = [0u64; 2048];
-    let mut units = [0u16; 16384];
-    let h = with_1(&mut items, &mut units, 1, 1);
-    removes(b"B5", h, &mut items, &units, 1, 1);
+fn b5(rt: &impl Print, items: &mut [u64], units: &mut [u16]) -> io::Result<()> {
+    let h = with_1(items, units, 1, 1);
+    removes(rt, "B5", h, items, units, 1, 1)
 }
 
-fn b6() {
-    let mut items = [0u64; 2048];
-    let mut units = [0u16; 16384];
-    let h = with_1(&mut items, &mut units, 0, 3);
-    let hollow = format(h, &mut items, &units, 1, 1, key_0(0)).head;
-    removes(b"B6", hollow, &mut items, &units, 1, 1);
+fn b6(rt: &impl Print, items: &mut [u64], units: &mut [u16]) -> io::Result<()> {
+    let h = with_1(items, units, 0, 3);
+    let hollow = format(h, items, units, 1, 1, key_0(0)).unwrap_or(h);
+    removes(rt, "B6", hollow, items, units, 1, 1)
 }
 
-fn b7() {
-    let mut items = [0u64; 2048];
-    let mut units = [0u16; 16384];
-    let h = abc(&mut items, &mut units);
-    formats(b"B7", h, &mut items, &units, 1, 0, 1);
+fn b7(rt: &impl Print, items: &mut [u64], units: &mut [u16]) -> io::Result<()> {
+    let h = abc(items, units);
+    formats(rt, "B7", h, items, units, 1, 0)
 }
 
-fn b8(index: u32, n: u32) {
-    let mut items = [0u64; 2048];
-    let mut units = [0u16; 16384];
-    let chunk = [0x61u16, 0xD83D, 0xDE00];
-    let h = insert(Head::fresh(), &mut items, &mut units, 0, &chunk).head;
-    formats(b"B8", h, &mut items, &units, index, n, 1);
+fn b8(rt: &impl Print, items: &mut [u64], units: &mut [u16], index: u32, n: u32) -> io::Result<()> {
+    let fresh = Head::fresh();
+    let h = insert(fresh, items, units, 0, &[0x61, 0xD83D, 0xDE00]).unwrap_or(fresh);
+    formats(rt, "B8", h, items, units, index, n)
 }
 
-fn b9(index: u32, n: u32) {
-    let mut items = [0u64; 2048];
-    let mut units = [0u16; 16384];
-    let h = abc(&mut items, &mut units);
-    removes(b"B9", h, &mut items, &units, index, n);
+fn b9(rt: &impl Print, items: &mut [u64], units: &mut [u16], index: u32, n: u32) -> io::Result<()> {
+    let h = abc(items, units);
+    removes(rt, "B9", h, items, units, index, n)
 }
 
-fn b10(index: u32) {
-    let mut items = [0u64; 2048];
-    let mut units = [0u16; 16384];
-    let d = [100u16];
-    let h = with_1(&mut items, &mut units, 0, 3);
-    inserts(b"B10", h, &mut items, &mut units, index, &d);
+fn b10(rt: &impl Print, items: &mut [u64], units: &mut [u16], index: u32) -> io::Result<()> {
+    let h = with_1(items, units, 0, 3);
+    inserts(rt, "B10", h, items, units, index, &[100])
 }
 
 fn embeds(items: &mut [u64], units: &[u16], count: u32) -> Head {
     let mut h = Head::fresh();
-    let mut n = 0;
-    while n < count {
-        h = insert_embed(h, items, units, 0, 7).head;
-        n += 1;
+    for _ in 0..count {
+        h = insert_embed(h, items, units, 0, 7).unwrap_or(h);
     }
     h
 }
 
 // As many items as there is room for, and one more.
-fn b12() {
-    let mut items = [0u64; 2048];
-    let units = [0u16; 16384];
-    let h = embeds(&mut items, &units, 2047);
-    let last = insert_embed(h, &mut items, &units, 0, 7);
-    let more = insert_embed(last.head, &mut items, &units, 0, 7);
-    let full = more.head;
-    print(b"B12 refused ");
-    print_number(last.refusal);
-    print(b" refused ");
-    print_number(more.refusal);
-    print(b" items ");
-    print_number(full.items);
-    print(b" len ");
-    print_number(len(full, &items, &units).len);
-    print(b"\n");
+fn b12(rt: &impl Print, items: &mut [u64], units: &[u16]) -> io::Result<()> {
+    let h = embeds(items, units, 2047);
+    let last = insert_embed(h, items, units, 0, 7);
+    let full = last.unwrap_or(h);
+    let more = insert_embed(full, items, units, 0, 7);
+    let head = more.unwrap_or(full);
+    let shown = len(head, items, units).unwrap_or(0);
+    print!(rt;
+        "B12 refused {} refused {}",
+        refusal::number(last),
+        refusal::number(more)
+    )?;
+    println!(rt; " items {} len {shown}", head.items)
 }
 
-fn main() {
-    b2();
-    b3(2);
-    b3(1);
-    b4();
-    b5();
-    b6();
-    b7();
-    b8(1, 1);
-    b8(2, 0);
-    b8(1, 9);
-    b9(1, 3);
-    b9(5, 0);
-    b10(3);
-    b10(4);
-    b12();
+fn main(rt: HostRuntime) -> io::Result<()> {
+    let mut items = [0u64; 2048];
+    let mut units = [0u16; 16384];
+    b2(&rt, &mut items, &mut units)?;
+    b3(&rt, &mut items, &mut units, 2)?;
+    b3(&rt, &mut items, &mut units, 1)?;
+    b4(&rt, &mut items, &mut units)?;
+    b5(&rt, &mut items, &mut units)?;
+    b6(&rt, &mut items, &mut units)?;
+    b7(&rt, &mut items, &mut units)?;
+    b8(&rt, &mut items, &mut units, 1, 1)?;
+    b8(&rt, &mut items, &mut units, 2, 0)?;
+    b8(&rt, &mut items, &mut units, 1, 9)?;
+    b9(&rt, &mut items, &mut units, 1, 3)?;
+    b9(&rt, &mut items, &mut units, 5, 0)?;
+    b10(&rt, &mut items, &mut units, 3)?;
+    b10(&rt, &mut items, &mut units, 4)?;
+    b12(&rt, &mut items, &units)
 }
