@@ -4,128 +4,103 @@
 
 use attrs::Attrs;
 use deltas::apply::apply_delta;
-use items::{Answer, len, text_of};
+use items::{len, text_of};
 use layout::head::Head;
 use layout::word::{Content, Item, unpack};
 use ops::delta::{Delta, DeltaOp, Inserted, Op};
+use refusal::Refusal;
 use sheet::insert::insert;
 use sheet::range::format;
+use std::io;
 
-fn print(text: &[u8]) {
-    io::write_all(1, text);
-}
-
-fn print_number(n: u32) {
-    io::print_decimal(1, n as u64);
-}
-
-fn print_unit(unit: u16) {
-    io::print_hex(1, unit as u64, 4);
-}
-
-fn print_units(text: &[u16]) {
-    let mut i = 0;
-    while i < text.len() {
-        print_unit(text[i]);
-        i += 1;
+// Units and nulls are written as numbers here, and as letters and words by the program of `sheet`: so each lists items in its own way.
+fn print_item(rt: &impl Print, n: u32, it: Item, text: &[u16]) -> io::Result<()> {
+    print!(rt; " {n}{}", if it.dead { '-' } else { ':' })?;
+    match it.content {
+        Content::Text { .. } => {
+            for unit in text {
+                print!(rt; "{unit:04X}")?;
+            }
+            Ok(())
+        }
+        Content::Embed(e) => print!(rt; "{e}"),
+        Content::Mark { key, value } => print!(rt; "{key}={value}"),
     }
 }
 
-fn print_mark(key: u32, value: u32) {
-    print_number(key);
-    print(b"=");
-    print_number(value);
-}
-
-fn print_item(n: u32, it: Item, text: &[u16]) {
-    print(b" ");
-    print_number(n);
-    if it.dead {
-        print(b"-");
-    } else {
-        print(b":");
-    }
-    let c = it.content;
-    match c {
-        Content::Text { start: _, len: _ } => print_units(text),
-        Content::Embed(e) => print_number(e),
-        Content::Mark { key, value } => print_mark(key, value),
-    }
-}
-
-fn wide(n: u32) -> usize {
-    n as usize
-}
-
-fn print_list(h: Head, items: &[u64], units: &[u16]) {
+fn print_list(rt: &impl Print, h: Head, items: &[u64], units: &[u16]) -> io::Result<()> {
     let mut at = h.first;
-    let mut k = h.items;
-    while k > 0 {
-        let i = wide(at);
-        if i >= items.len() {
-            return;
-        }
-        let it = unpack(items[i]);
-        print_item(at, it, text_of(h, items, units, at));
+    for _ in 0..h.items {
+        let Some(w) = items.get(at as usize) else {
+            return Ok(());
+        };
+        let it = unpack(*w);
+        print_item(rt, at, it, text_of(h, items, units, at))?;
         at = it.next;
-        k -= 1;
     }
+    Ok(())
 }
 
-// A long list is not written out.
-fn report(name: &[u8], a: Answer, items: &[u64], units: &[u16]) {
-    let h = a.head;
-    print(name);
-    print(b": refused ");
-    print_number(a.refusal);
-    print(b" len ");
-    print_number(len(h, items, units).len);
-    print(b" items ");
-    print_number(h.items);
-    print(b" units ");
-    print_number(h.units);
-    if h.units < 9 {
-        if h.items < 9 {
-            print_list(h, items, units);
-        }
+// `h` is the head before the call. A long list is not written out.
+fn report(
+    rt: &impl Print,
+    name: &str,
+    h: Head,
+    answer: Result<Head, Refusal>,
+    items: &[u64],
+    units: &[u16],
+) -> io::Result<Head> {
+    let head = answer.unwrap_or(h);
+    let shown = len(head, items, units).unwrap_or(0);
+    print!(rt;
+        "{name}: refused {} len {shown} items {} units {}",
+        refusal::number(answer),
+        head.items,
+        head.units
+    )?;
+    if head.units < 9 && head.items < 9 {
+        print_list(rt, head, items, units)?;
     }
-    print(b"\n");
+    println!(rt;)?;
+    Ok(head)
 }
 
 fn applies(
-    name: &[u8],
+    rt: &impl Print,
+    name: &str,
     h: Head,
     items: &mut [u64],
     units: &mut [u16],
     d: Delta,
     chunk: &[u16],
-) -> Head {
+) -> io::Result<Head> {
     let words = [0u64; 2048];
     let room = [0u16; 16384];
-    let a = apply_delta(h, items, units, d, chunk, &words, &room);
-    report(name, a, items, units);
-    a.head
+    let answer = apply_delta(h, items, units, d, chunk, &words, &room);
+    report(rt, name, h, answer, items, units)
 }
 
 // On a fresh sheet.
-fn begins(name: &[u8], d: Delta, chunk: &[u16]) {
+fn begins(rt: &impl Print, name: &str, d: Delta, chunk: &[u16]) -> io::Result<()> {
     let mut items = [0u64; 2048];
     let mut units = [0u16; 16384];
-    applies(name, Head::fresh(), &mut items, &mut units, d, chunk);
+    applies(rt, name, Head::fresh(), &mut items, &mut units, d, chunk)?;
+    Ok(())
 }
 
 // The same with other scratch.
-fn measures(name: &[u8], d: Delta, words: &[u64], room: &[u16]) {
+fn measures(rt: &impl Print, name: &str, d: Delta, words: &[u64], room: &[u16]) -> io::Result<()> {
     let mut items = [0u64; 2048];
     let mut units = [0u16; 16384];
-    let none = [0u16; 1];
-    let a = apply_delta(Head::fresh(), &mut items, &mut units, d, &none, words, room);
-    report(name, a, &items, &units);
+    let h = Head::fresh();
+    let answer = apply_delta(h, &mut items, &mut units, d, &[0], words, room);
+    report(rt, name, h, answer, &items, &units)?;
+    Ok(())
 }
 
 fn and(d: Delta, op: Op) -> Delta {
     let attrs = Attrs::empty();
-    d.push(DeltaOp { op, attrs }).delta
+    d.push(DeltaOp { op, attrs }).unwrap_or(d)
 }
 
 fn one(op: Op) -> Delta {
@@ -138,43 +113,47 @@ fn text(start: u32, len: u32) -> Op {
 
 // "abcd" with 0=1 on its second half.
 fn half_bold(items: &mut [u64], units: &mut [u16]) -> Head {
-    let abcd = [97u16, 98, 99, 100];
-    let h = insert(Head::fresh(), items, units, 0, &abcd).head;
-    format(h, items, units, 2, 2, Attrs::empty().with(0, 1).attrs).head
+    let fresh = Head::fresh();
+    let h = insert(fresh, items, units, 0, &[97, 98, 99, 100]).unwrap_or(fresh);
+    let none = Attrs::empty();
+    let bold = none.with(0, 1).unwrap_or(none);
+    format(h, items, units, 2, 2, bold).unwrap_or(h)
 }
 
-fn b11() {
+fn b11(rt: &impl Print) -> io::Result<()> {
     let mut items = [0u64; 2048];
     let mut units = [0u16; 16384];
     let h = half_bold(&mut items, &mut units);
-    let none = [0u16; 1];
     let d = and(and(one(Op::Retain(1)), Op::Delete(1)), Op::Delete(1));
-    applies(b"B11", h, &mut items, &mut units, d, &none);
+    applies(rt, "B11", h, &mut items, &mut units, d, &[0])?;
+    Ok(())
 }
 
 // The text may end with the lent units, not past them; even an empty one may not start past them.
-fn lent() {
+fn lent(rt: &impl Print) -> io::Result<()> {
     let xy = [88u16, 89];
-    begins(b"starts past", one(text(3, 0)), &xy);
-    begins(b"ends past", one(text(2, 1)), &xy);
-    begins(b"ends there", and(one(text(2, 0)), text(1, 1)), &xy);
+    begins(rt, "starts past", one(text(3, 0)), &xy)?;
+    begins(rt, "ends past", one(text(2, 1)), &xy)?;
+    begins(rt, "ends there", and(one(text(2, 0)), text(1, 1)), &xy)
 }
 
-fn texts() {
+fn texts(rt: &impl Print) -> io::Result<()> {
     let mut items = [0u64; 2048];
     let mut units = [0u16; 16384];
     let xy = [88u16, 89];
     let both = and(one(text(0, 2)), text(0, 1));
     let h = applies(
-        b"two texts",
+        rt,
+        "two texts",
         Head::fresh(),
         &mut items,
         &mut units,
         both,
         &xy,
-    );
+    )?;
     let much = and(one(text(0, 2)), Op::Delete(4));
-    applies(b"too much", h, &mut items, &mut units, much, &xy);
+    applies(rt, "too much", h, &mut items, &mut units, much, &xy)?;
+    Ok(())
 }
 
 // Operations that do nothing, and an embed as the 256th.
@@ -187,14 +166,14 @@ fn counts(count: u32) -> Delta {
     d
 }
 
-fn scratch() {
+fn scratch(rt: &impl Print) -> io::Result<()> {
     let words = [0u64; 2048];
     let room = [0u16; 16384];
-    measures(b"256", counts(256), &words, &room);
-    measures(b"257", counts(257), &words, &room);
-    measures(b"257, short scratch", counts(257), &words[..2047], &room);
-    measures(b"short of words", counts(256), &words[..2047], &room);
-    measures(b"short of units", counts(256), &words, &room[..16383]);
+    measures(rt, "256", counts(256), &words, &room)?;
+    measures(rt, "257", counts(257), &words, &room)?;
+    measures(rt, "257, short scratch", counts(257), &words[..2047], &room)?;
+    measures(rt, "short of words", counts(256), &words[..2047], &room)?;
+    measures(rt, "short of units", counts(256), &words, &room[..16383])
 }
 
 // Each operation puts 32 marks: 64 of them make 2,048 items.
@@ -210,35 +189,36 @@ fn marks(count: u32) -> Delta {
     }
 }
 
-fn items_full() {
-    let none = [0u16; 1];
-    begins(b"2,048 items", marks(64), &none);
-    begins(b"2,080 items", marks(65), &none);
+fn items_full(rt: &impl Print) -> io::Result<()> {
+    begins(rt, "2,048 items", marks(64), &[0])?;
+    begins(rt, "2,080 items", marks(65), &[0])
 }
 
 // The first operation would fit, the delta as a whole does not.
-fn units_full() {
+fn units_full(rt: &impl Print) -> io::Result<()> {
     let mut items = [0u64; 2048];
     let mut units = [0u16; 16384];
     let chunk = [97u16; 16384];
     let most = one(text(0, 16384));
     let h = applies(
-        b"16,384 units",
+        rt,
+        "16,384 units",
         Head::fresh(),
         &mut items,
         &mut units,
         most,
         &chunk,
-    );
+    )?;
     let more = and(one(Op::Insert(Inserted::Embed(9))), text(0, 1));
-    applies(b"16,385 units", h, &mut items, &mut units, more, &chunk);
+    applies(rt, "16,385 units", h, &mut items, &mut units, more, &chunk)?;
+    Ok(())
 }
 
-fn main() {
-    b11();
-    lent();
-    texts();
-    scratch();
-    items_full();
-    units_full();
+fn main(rt: HostRuntime) -> io::Result<()> {
+    b11(&rt)?;
+    lent(&rt)?;
+    texts(&rt)?;
+    scratch(&rt)?;
+    items_full(&rt)?;
+    units_full(&rt)
 }
