@@ -1,5 +1,1 @@
-pub mod Lefts
-pub mod Saids
-pub mod Fronts
-pub mod Writings
-pub mod Plans
+pub mod Readings

@@ -1,17 +1,15 @@
 -- Answers whose parts come back through lent numbers.
-use Rattle.std.specs.Prelude.{ℕ, ◌≡◌, cond, List, [], ◌∷◌, map, leb, ℤ, pos, length, get_or, take}
-use Rattle.items.specs.declared.Length.{Length}
-use Rattle.runs.specs.declared.calls.Count.{Count}
+use Rattle.std.specs.Prelude.{ℕ, ◌≡◌, cond, List, [], ◌∷◌, map, leb, ℤ, pos, length, get_or, take, Option, Some, None}
+use Rattle.items.specs.Calls.{Length}
 use Rattle.cursors.specs.declared.run.Run.{Run}
-use Rattle.runs.specs.Answers.{Said}
+use Rattle.runs.specs.Answers.{Count, Said}
 use Rattle.ops.specs.declared.delta.Inserted.TheVariants.{Text, Embed}
 use Rattle.ops.specs.declared.delta.Op.TheVariants.{Insert}
 use Rattle.ops.specs.declared.delta.DeltaOp.{DeltaOp}
 use Rattle.encoding.specs.Words.{words_of, all_words}
-use Rattle.events.specs.declared.event.EventAnswer.{EventAnswer}
-use Rattle.events.specs.Given.{at_front}
+use Rattle.events.specs.Given.{EventAnswer, at_front}
 use Rattle.lookup.specs.declared.Shown.{Shown}
-use Rattle.lookup.specs.declared.Shown.TheVariants.{Nothing, Bool as IsBool, Int as IsInt, String as IsString}
+use Rattle.lookup.specs.declared.Shown.TheVariants.{Bool as IsBool, Int as IsInt, String as IsString}
 
 abbrev pub length_in : ℕ → ℕ → Length
 length_in r n = record { refusal = r; len = n }
@@ -37,18 +35,18 @@ runs_words rs = all_words (map run_op rs)
 -- ---- the table
 
 -- The number of each case of a value ..
-abbrev pub kind_in : Shown → ℕ
-kind_in Nothing = 0
-kind_in (IsBool b) = 1
-kind_in (IsInt z) = 2
-kind_in IsString = 3
+abbrev pub kind_in : Option Shown → ℕ
+kind_in None = 0
+kind_in (Some (IsBool b)) = 1
+kind_in (Some (IsInt z)) = 2
+kind_in (Some IsString) = 3
 
 -- .. and what is beside it.
-abbrev pub number_in : Shown → ℤ
-number_in Nothing = pos 0
-number_in (IsBool b) = cond b (pos 1) (pos 0)
-number_in (IsInt z) = z
-number_in IsString = pos 0
+abbrev pub number_in : Option Shown → ℤ
+number_in None = pos 0
+number_in (Some (IsBool b)) = cond b (pos 1) (pos 0)
+number_in (Some (IsInt z)) = z
+number_in (Some IsString) = pos 0
 
 -- Bytes that are shown stand at the front of a lent slice; 8, and nothing written, where it is too short for them.
 pub record ShownIn (bytes before after : List ℕ) (r : Count) : Type 0 where

@@ -2,11 +2,9 @@
 use Rattle.std.specs.Prelude.{ℕ, List, get_or}
 use Rattle.attrs.specs.declared.Attrs.{Attrs}
 use Rattle.layout.specs.declared.head.Head.{Head}
-use Rattle.items.specs.declared.Answer.{Answer}
 use Rattle.layout.specs.Memory.{Carried}
-use Rattle.changes.specs.Frame.{leaving}
 use Rattle.table.specs.declared.TableHead.{TableHead}
-use Rattle.table.specs.declared.Asked.{Asked}
+use Rattle.table.specs.Ask.{Asked}
 
 -- A sheet's head in three numbers: the first item, and how many items and units are in use.
 abbrev pub head_of : List ℕ → Head
@@ -20,13 +18,9 @@ table_head_of w = record { names = get_or w 0 0; values = get_or w 1 0 }
 abbrev pub set_of : ℕ → List ℕ → Attrs
 set_of m v = record { mask = m; values = v }
 
--- What is answered: the refusal, and the head's numbers.
-abbrev pub answer_in : ℕ → List ℕ → Answer
-answer_in r w = record { refusal = r; head = head_of w }
-
 -- What a call leaves: the refusal that it answers, the head's numbers, and both buffers.
-unfoldable pub left : ℕ → List ℕ → List ℕ → List ℕ → Carried
-left r w m u = leaving (answer_in r w) m u
+abbrev pub left : ℕ → List ℕ → List ℕ → List ℕ → Carried
+left r w m u = record { refusal = r; head = head_of w; words = m; units = u }
 
 -- What an asking answers: the refusal, the number asked for, and the head's numbers.
 abbrev pub asked_in : ℕ → ℕ → List ℕ → Asked

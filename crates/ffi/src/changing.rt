@@ -3,14 +3,13 @@ ghost use Rattle.std.specs.Prelude.{◌≡◌};
 ghost use Rattle.attrs.specs.Packed.{says};
 ghost use Rattle.rules.specs.Calls.{begin_now, insert_text, insert_text_with, insert_embed, insert_embed_with, format_range, remove_range};
 ghost use Rattle.layout.specs.Memory.{carry};
-ghost use Rattle.items.specs.Calls.{answer_of};
-ghost use Rattle.ffi.specs.Heads.{head_of, set_of, answer_in, left};
+ghost use Rattle.ffi.specs.Heads.{head_of, set_of, left};
 
 use crate::heads::{answered, head_of, set_of};
 
 #[unsafe(no_mangle)]
 pub extern "C" fn indovalump_begin(head: &mut [u32; 3], items: &mut [u64], units: &[u16]) -> u32
-    ensures { (answer_in result head.new ≡ answer_of (carry begin_now (head_of head.old) items.old units.now)) × (items.new ≡ (carry begin_now (head_of head.old) items.old units.now).words) }
+    ensures { left result head.new items.new units.now ≡ carry begin_now (head_of head.old) items.old units.now }
 {
     let h = head_of(head);
     answered(head, items::begin(h, items, units))

@@ -2,22 +2,22 @@
 ghost use Rattle.std.specs.Prelude.{◌≡◌, ◌≤◌, length};
 ghost use Rattle.table.specs.Value.{bool as bool_value, int as int_value, string as string_value};
 ghost use Rattle.table.specs.Sound.{fresh_head, sound_of};
-ghost use Rattle.table.specs.Ask.{ask_name, ask_value, Gives};
+ghost use Rattle.table.specs.Ask.{ask_name, ask_value, told, Gives};
 ghost use Rattle.lookup.specs.Show.{shown_of, name_of, string_of};
-ghost use Rattle.events.specs.Given.{at_front};
+ghost use Rattle.runs.specs.Answers.{told as told_count};
 ghost use Rattle.ffi.specs.Heads.{table_head_of, asked_in};
 ghost use Rattle.ffi.specs.Answers.{count_in, kind_in, number_in, ShownIn};
 
-use crate::heads::table_head_of;
+use crate::heads::{settled, table_head_of, table_words_of};
 use lookup::Shown;
+use refusal::Refusal;
 use table::{Asked, TableHead};
 
 #[unsafe(no_mangle)]
 pub extern "C" fn indovalump_table_fresh(head: &mut [u32; 2])
     ensures { table_head_of head.new ≡ fresh_head }
 {
-    let h = TableHead::fresh();
-    *head = [h.names, h.values];
+    *head = table_words_of(TableHead::fresh());
 }
 
 #[unsafe(no_mangle)]
@@ -28,16 +28,17 @@ pub extern "C" fn indovalump_table_sound(head: &[u32; 2], table: &[u8]) -> bool
     table::sound(h, table)
 }
 
-// Stores the head of an answer, and the number that was asked for.
-fn given(head: &mut [u32; 2], number: &mut u32, a: Asked) -> u32
-    ensures { asked_in result number.new head.new ≡ a }
+// Stores the head of an answer that has one, and the number that was asked for.
+fn given(head: &mut [u32; 2], number: &mut u32, answer: Result<Asked, Refusal>) -> u32
+    ensures { asked_in result number.new head.new ≡ told (table_head_of head.old) answer }
 {
-    let h = a.head;
-    *head = [h.names, h.values];
-    *number = a.number;
-    a.refusal
+    if let Ok(asked) = answer {
+        *head = table_words_of(asked.head);
+    }
+    settled(answer.map(|asked| asked.number), number, 0)
 }
 
+// The four askings differ in the type of what is asked for alone: the C interface needs one for each.
 #[unsafe(no_mangle)]
 pub extern "C" fn indovalump_ask_name(
     head: &mut [u32; 2],
@@ -90,28 +91,16 @@ pub extern "C" fn indovalump_ask_string(
     given(head, number, table::ask_string(h, table, value))
 }
 
-fn copy_front(bytes: &[u8], out: &mut [u8])
-    requires { length bytes.now ≤ length out.old }
-    ensures { out.new ≡ at_front bytes.now out.old }
-{
-    let mut i = 0;
-    while i < bytes.len() {
-        out[i] = bytes[i];
-        i += 1;
-    }
-}
-
 // All of the bytes, or refusal 8 where they do not fit.
-fn shown(bytes: &[u8], out: &mut [u8], count: &mut usize) -> u32
-    ensures { ShownIn bytes.now out.old out.new (count_in result count.new) }
+fn show(bytes: &[u8], out: &mut [u8]) -> Result<usize, Refusal>
+    ensures { ShownIn bytes.now out.old out.new (told_count result) }
 {
-    if bytes.len() > out.len() {
-        *count = 0;
-        return 8;
+    let count = bytes.len();
+    if count > out.len() {
+        return Err(Refusal::Out);
     }
-    copy_front(bytes, out);
-    *count = bytes.len();
-    0
+    out[..count].copy_from_slice(bytes);
+    Ok(count)
 }
 
 // The bytes of a name: none for a number that is not given out.
@@ -126,7 +115,7 @@ pub extern "C" fn indovalump_name(
     ensures { ShownIn (name_of (table_head_of head.now) table.now n) out.old out.new (count_in result count.new) }
 {
     let h = table_head_of(head);
-    shown(lookup::name_bytes(h, table, n), out, count)
+    settled(show(lookup::name_bytes(h, table, n), out), count, 0)
 }
 
 // The bytes of a string value: none for a number that is not given out, and for a value that is no string.
@@ -141,33 +130,22 @@ pub extern "C" fn indovalump_string(
     ensures { ShownIn (string_of (table_head_of head.now) table.now v) out.old out.new (count_in result count.new) }
 {
     let h = table_head_of(head);
-    shown(lookup::string_bytes(h, table, v), out, count)
+    settled(show(lookup::string_bytes(h, table, v), out), count, 0)
 }
 
-// The kind of a value: 1 for a bool, 2 for an integer, 3 for a string, 0 for a number that is not given out. `number` is the integer,
-// or 0 or 1 for a bool.
+// The kind of a value, a number since C reads it: 1 for a bool, 2 for an integer, 3 for a string, 0 for a number that is not given
+// out. `number` is the integer, or 0 or 1 for a bool.
 #[unsafe(no_mangle)]
 pub extern "C" fn indovalump_value(head: &[u32; 2], table: &[u8], v: u32, number: &mut i64) -> u32
     ensures { (result ≡ kind_in (shown_of (table_head_of head.now) table.now v)) × (number.new ≡ number_in (shown_of (table_head_of head.now) table.now v)) }
 {
     let h = table_head_of(head);
-    let value = lookup::value_at(h, table, v);
-    match value {
-        Shown::Nothing => {
-            *number = 0;
-            0
-        }
-        Shown::Bool(b) => {
-            *number = b as i64;
-            1
-        }
-        Shown::Int(n) => {
-            *number = n;
-            2
-        }
-        Shown::String => {
-            *number = 0;
-            3
-        }
-    }
+    let (kind, shown) = match lookup::value_at(h, table, v) {
+        None => (0, 0),
+        Some(Shown::Bool(b)) => (1, i64::from(b)),
+        Some(Shown::Int(n)) => (2, n),
+        Some(Shown::String) => (3, 0),
+    };
+    *number = shown;
+    kind
 }

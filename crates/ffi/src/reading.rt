@@ -10,20 +10,18 @@ ghost use Rattle.ranges.specs.Texts.{Copied};
 ghost use Rattle.events.specs.Given.{given, at_front};
 ghost use Rattle.ffi.specs.Answers.{length_in, count_in, event_in, run_op, said_words};
 
-use crate::heads::head_of;
+use crate::heads::{head_of, settled, words_of};
 use cursors::run::Run;
-use encoding::write_op;
+use encoding::{WORDS, write_op};
 use layout::head::Head;
 use ops::delta::{DeltaOp, Inserted, Op};
-use runs::calls::Found;
 
 // The head of a sheet that holds nothing, whatever lies in its buffers.
 #[unsafe(no_mangle)]
 pub extern "C" fn indovalump_fresh(head: &mut [u32; 3])
     ensures { head_of head.new ≡ fresh_head }
 {
-    let h = Head::fresh();
-    *head = [h.first, h.items, h.units];
+    *head = words_of(Head::fresh());
 }
 
 #[unsafe(no_mangle)]
@@ -44,9 +42,7 @@ pub extern "C" fn indovalump_len(
     ensures { length_in result len.new ≡ length_of (head_of head.now) items.now units.now }
 {
     let h = head_of(head);
-    let a = items::len(h, items, units);
-    *len = a.len;
-    a.refusal
+    settled(items::len(h, items, units), len, 0)
 }
 
 #[unsafe(no_mangle)]
@@ -60,9 +56,7 @@ pub extern "C" fn indovalump_count_runs(
     ensures { count_in result count.new ≡ counted (head_of head.now) items.now units.now joined }
 {
     let h = head_of(head);
-    let a = runs::calls::count_runs(h, items, units, joined);
-    *count = a.count;
-    a.refusal
+    settled(runs::calls::count_runs(h, items, units, joined), count, 0)
 }
 
 // The units that are seen in a range.
@@ -79,9 +73,11 @@ pub extern "C" fn indovalump_text(
     ensures { Copied (head_of head.now) items.now units.now index len out.old out.new (count_in result count.new) }
 {
     let h = head_of(head);
-    let a = ranges::text_of_range(h, items, units, index, len, out);
-    *count = a.count;
-    a.refusal
+    settled(
+        ranges::text_of_range(h, items, units, index, len, out),
+        count,
+        0,
+    )
 }
 
 // The event of the running transaction: its operations, eight numbers to each, and the units of their texts. `counts` are how many
@@ -100,34 +96,34 @@ pub extern "C" fn indovalump_event(
     ensures texts { texts.new ≡ at_front (given before live (head_of head.now) items.now units.now (length ops.old) (length texts.old)).units texts.old }
 {
     let h = head_of(head);
-    let a = events::event::event(h, items, units, ops, texts);
-    *counts = [a.ops, a.units];
-    a.refusal
+    let answer = events::event::event(h, items, units, ops, texts);
+    *counts = [0; 2];
+    if let Ok(written) = answer {
+        *counts = [written.ops, written.units];
+    }
+    refusal::number(answer)
 }
 
 // A run as an operation.
 pub(crate) fn run_op(run: Run) -> DeltaOp
     ensures { result ≡ run_op run }
 {
-    let attrs = run.attrs;
-    if run.embed {
-        let embed = Inserted::Embed(run.number);
-        return DeltaOp {
-            op: Op::Insert(embed),
-            attrs,
-        };
-    }
-    let text = Inserted::Text {
-        start: run.start,
-        len: run.len,
+    let inserted = if run.embed {
+        Inserted::Embed(run.number)
+    } else {
+        Inserted::Text {
+            start: run.start,
+            len: run.len,
+        }
     };
     DeltaOp {
-        op: Op::Insert(text),
-        attrs,
+        op: Op::Insert(inserted),
+        attrs: run.attrs,
     }
 }
 
 // The run of a number as an operation's eight numbers, the start and length of a text counting visible units; all 0 for none.
+#[tactic(auto, unfolding(crate::specs::Answers::said_words))]
 #[unsafe(no_mangle)]
 pub extern "C" fn indovalump_run_at(
     head: &[u32; 3],
@@ -141,16 +137,10 @@ pub extern "C" fn indovalump_run_at(
     ensures words { run.new ≡ said_words (run_at (head_of head.now) items.now units.now joined n) }
 {
     let h = head_of(head);
-    let a = runs::calls::run_at(h, items, units, joined, n);
-    let found = a.found;
-    *run = [0; 8];
-    match found {
-        Found::Here => {
-            let here = a.run;
-            write_op(run, 0, run_op(here));
-            0
-        }
-        Found::Nothing => 0,
-        Found::Broken => 9,
+    let answer = runs::calls::run_at(h, items, units, joined, n);
+    *run = [0; WORDS];
+    if let Ok(Some(found)) = answer {
+        write_op(run, 0, run_op(found));
     }
+    refusal::number(answer)
 }

@@ -1,72 +1,34 @@
 // A delta that is lent in operation numbers, eight to each operation.
 ghost use Rattle.std.specs.Prelude.{◌≡◌, length};
-ghost use Rattle.encoding.specs.Words.{found_at};
-ghost use Rattle.changes.specs.Frame.{leaving};
+ghost use Rattle.layout.specs.Memory.{leaving};
 ghost use Rattle.ffi.specs.Heads.{head_of, left};
-ghost use Rattle.ffi.specs.Deltas.{read_one, read_ops, delta_in, carry_words};
+ghost use Rattle.ffi.specs.Deltas.{delta_in, carry_words};
 
 use crate::heads::{answered, head_of};
 use deltas::apply::apply_delta;
-use encoding::{Found, op_at};
-use items::Answer;
+use encoding::{WORDS, op_at};
 use layout::head::Head;
-use ops::delta::{Delta, DeltaOp};
+use ops::delta::Delta;
+use refusal::Refusal;
 use soundness::sound;
 
-// The delta that was read, and whether all of the numbers are operations.
-#[derive(Clone, Copy)]
-pub(crate) struct ReadDelta {
-    pub ok: bool,
-    pub delta: Delta,
-}
-
-fn read_one(words: &[u32], i: u32, read: ReadDelta) -> ReadDelta
-    ensures { result ≡ read_one (found_at words.now i) read }
-{
-    let m = op_at(words, i);
-    let found = m.op;
-    let attrs = m.attrs;
-    let old = read.delta;
-    match found {
-        Found::Is(op) => {
-            let pushed = old.push(DeltaOp { op, attrs });
-            let delta = pushed.delta;
-            ReadDelta { ok: read.ok, delta }
-        }
-        Found::Nothing => ReadDelta {
-            ok: false,
-            delta: old,
-        },
-    }
-}
-
-fn read_ops(words: &[u32], n: u32) -> ReadDelta
-    ensures { result ≡ read_ops n words.now }
-{
-    let delta = Delta::empty();
-    let mut read = ReadDelta { ok: true, delta };
-    let mut i: u32 = 0;
-    while i < n {
-        read = read_one(words, i, read);
-        i += 1;
-    }
-    read
-}
-
-fn read_delta(words: &[u32]) -> ReadDelta
+// None where something is no operation.
+#[tactic(auto, unfolding(ops::specs::Ops::empty_delta, crate::specs::Deltas::delta_in, crate::specs::Deltas::read_ops))]
+fn read_delta(words: &[u32]) -> Option<Delta>
     ensures { result ≡ delta_in words.now }
 {
-    let delta = Delta::empty();
-    let none = ReadDelta { ok: false, delta };
-    if words.len() > 2048 {
-        return none;
+    if words.len() > Delta::OPS as usize * WORDS || words.len() % WORDS != 0 {
+        return None;
     }
-    if words.len() % 8 != 0 {
-        return none;
+    let mut delta = Delta::empty();
+    for i in 0..(words.len() / WORDS) as u32 {
+        let op = op_at(words, i)?;
+        delta = delta.push(op).ok()?;
     }
-    read_ops(words, (words.len() / 8) as u32)
+    Some(delta)
 }
 
+#[tactic(auto, unfolding(crate::specs::Deltas::carry_words))]
 fn carry_words(
     h: Head,
     items: &mut [u64],
@@ -75,23 +37,13 @@ fn carry_words(
     text: &[u16],
     scratch_items: &[u64],
     scratch_units: &[u16],
-) -> Answer
-    ensures { leaving result items.new units.new ≡ carry_words (length scratch_items.now) (length scratch_units.now) text.now ops.now h items.old units.old }
+) -> Result<Head, Refusal>
+    ensures { leaving h result items.new units.new ≡ carry_words (length scratch_items.now) (length scratch_units.now) text.now ops.now h items.old units.old }
 {
-    let read = read_delta(ops);
-    if read.ok {
-        let delta = read.delta;
-        return apply_delta(h, items, units, delta, text, scratch_items, scratch_units);
-    }
-    if sound(h, items, units) {
-        return Answer {
-            refusal: 7,
-            head: h,
-        };
-    }
-    Answer {
-        refusal: 9,
-        head: h,
+    match read_delta(ops) {
+        Some(delta) => apply_delta(h, items, units, delta, text, scratch_items, scratch_units),
+        None if sound(h, items, units) => Err(Refusal::Many),
+        None => Err(Refusal::Broken),
     }
 }
 

@@ -1,28 +1,47 @@
 -- `ffi::listing::write_runs` meets its contract. Assumes nothing.
-use native.Mathlib.Omega.{arith}
-use Rattle.ffi.proofs.Writings.{writing_start, fewer, writing-next, writing-end}
+use Rattle.std.proofs.Common.{◌+◌, ◌≤◌, ◌∙◌, List, length, map, sym, ap, inl, arith}
+use Rattle.std.proofs.Math.Nat.{zero-add}
+use Rattle.std.proofs.Math.ListN.{length-map}
+use Rattle.std.proofs.Math.Seq.{sets-eq, take-length}
+use Rattle.std.proofs.lemmas.List.Edits.{sets}
+use Rattle.layout.proofs.Soundness.{sound-parts}
+use Rattle.cursors.specs.declared.run.Run.{Run}
+use Rattle.runs.specs.Answers.{records_in}
+use Rattle.runs.proofs.Tallies.{start-stands, start-few, start-records, plan-grants}
+use Rattle.events.specs.Given.{at_front}
+use Rattle.events.proofs.Tellings.{length-words}
+use Rattle.ffi.specs.Answers.{run_op, runs_words}
 use Rattle.ffi.proofs.listing.write_runs.Goals as goal
 
 pub loop-i-init : goal.loop-i-init
-loop-i-init c = writing_start _ _ _ _ _ c.requires.stands c.requires.n_in_bounds
-
-pub next_run-c-requires : goal.next_run-c-requires
-next_run-c-requires c = c.loop-i.invariant.stands
+loop-i-init c =
+    let a = c.args in
+    let ok = (plan-grants a.h a.items.now a.units.now a.joined _ _ c.in_ok-count.ensures).0 in
+    let from = c.enumerate-i-items.ensures in
+    let new = c.new.ensures in
+    let all = start-records a.joined a.h a.items.now in
+    rw (c.into_iter-i-iterator.ensures.into_iter_gives, from.source, from.count, new.items, new.joined, new.spot)
+    (record {
+      can = (start-stands a.h a.items.now a.units.now ok, tt, inl (omega (arith, start-few a.h a.items.now a.units.now ok)));
+      finite = tt;
+      few = omega (arith, (sound-parts a.h a.items.now a.units.now ok).items);
+      rest = omega (arith, ap length all);
+      whole = ap (λ (rs : List Run). sets a.ops.now 0 (runs_words rs)) all;
+    })
 
 pub write_op-requires : goal.write_op-requires
-write_op-requires c = omega (arith, c.loop-i-test.true, c.loop-i.invariant.long, c.requires.n_in_bounds_2)
+write_op-requires c =
+    let a = c.args in
+    let ok = plan-grants a.h a.items.now a.units.now a.joined _ _ c.in_ok-count.ensures in
+    let step = c.in-Some.ensures.steps in
+    omega (arith, ok.1, ok.2, step.1, ap length step.0)
 
-pub overflow_add-i : goal.overflow_add-i
-overflow_add-i c = omega (arith, c.requires.todo_bound, fewer _ _ _ _ _ _ _ _ _ c.loop-i.invariant c.loop-i-test.true c.next_run-c.ensures)
-
-pub loop-i-smaller : goal.loop-i-smaller
-loop-i-smaller c = omega (arith, c.loop-i-test.true)
-
-pub loop-i-preserved : goal.loop-i-preserved
-loop-i-preserved c = writing-next _ _ _ _ _ _ _ _ _ c.loop-i.invariant c.loop-i-test.true c.next_run-c.ensures _ (rw c.run_op.ensures at c.write_op.ensures)
-
-pub shape_of-ops : goal.shape_of-ops
-shape_of-ops c = c.loop-i.invariant.long
-
-pub returns : goal.returns
-returns c = writing-end _ _ _ _ _ _ _ _ c.loop-i.invariant c.loop-i-test.false
+pub returns-clause-words : goal.returns-clause-words
+returns-clause-words c =
+    let a = c.args in
+    let rs = records_in a.h a.items.now a.joined in
+    let ok = plan-grants a.h a.items.now a.units.now a.joined _ _ c.in_ok-count.ensures in
+    let fits : 0 + length (runs_words rs) ≤ length a.ops.now = omega (arith, ok.1, ok.2, length-words (map run_op rs), length-map rs run_op) in
+    rw c.in-None.ensures.steps.0.0 at c.loop-i.invariant.whole
+    ∙ simp zero-add at (sets-eq (runs_words rs) a.ops.now 0 fits)
+    ∙ ap (λ (r : List Run). at_front (runs_words r) a.ops.now) (sym (rw ok.1 (take-length rs)))
