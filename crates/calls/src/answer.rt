@@ -1,127 +1,129 @@
 // The length, runs, items and event of a sheet.
+ghost use Rattle.std.specs.Prelude.{IfSome};
+ghost use Rattle.cursors.specs.Cursors.{Ready};
+
 use crate::letters::say_letters;
 use crate::say::{say, say_attrs, say_number, say_units};
-use attrs::Attrs;
+use crate::state::Sheet;
 use cursors::run::Run;
-use encoding::{Found, op_at};
-use layout::head::Head;
+use cursors::walk::Runs;
+use encoding::op_at;
+use events::event::event;
 use layout::word::{Content, Item, unpack};
-use ops::delta::{Inserted, Op};
+use ops::delta::{DeltaOp, Inserted, Op};
+use ranges::text_of_range;
+use soundness::sound;
 
-fn say_len(h: Head, items: &[u64], units: &[u16]) {
+fn say_len(sheet: &Sheet) {
+    let len = items::len(sheet.head, &sheet.items, &sheet.units).unwrap_or(0);
     say(b"len ");
-    say_number(items::len(h, items, units).len as u64);
+    say_number(u64::from(len));
     say(b"\n");
 }
 
-fn say_part(units: &[u16], start: u32, len: u32) {
-    let a = start as usize;
-    let e = a + len as usize;
-    if e <= units.len() {
-        say_units(&units[a..e]);
+fn runs(sheet: &Sheet, joined: bool) -> Option<Runs<'_>>
+    ensures { IfSome result Ready }
+{
+    if sound(sheet.head, &sheet.items, &sheet.units) {
+        Some(Runs::new(sheet.head, &sheet.items, joined))
+    } else {
+        None
     }
 }
 
-fn say_text(h: Head, items: &[u64], units: &[u16], run: Run) {
-    let mut text = [0u16; 16384];
-    ranges::text_of_range(h, items, units, run.start, run.len, &mut text);
-    say(b"t");
-    say_part(&text, 0, run.len);
+fn part(units: &[u16], start: u32, len: u32) -> &[u16] {
+    let start = start as usize;
+    units.get(start..start + len as usize).unwrap_or(&[])
 }
 
-fn show_text(h: Head, items: &[u64], units: &[u16], run: Run) {
-    let mut text = [0u16; 16384];
-    ranges::text_of_range(h, items, units, run.start, run.len, &mut text);
-    let n = run.len as usize;
-    if n <= text.len() {
-        say_letters(&text[..n]);
+// A run's text, for which `text` has room.
+fn text_of<'a>(sheet: &Sheet, run: Run, text: &'a mut [u16; 16384]) -> &'a [u16] {
+    let _ = text_of_range(
+        sheet.head,
+        &sheet.items,
+        &sheet.units,
+        run.start,
+        run.len,
+        text,
+    );
+    part(text, 0, run.len)
+}
+
+fn show_content(sheet: &Sheet, run: Run) {
+    if run.embed {
+        say(b"<");
+        say_number(u64::from(run.number));
+        say(b">");
+    } else {
+        say_letters(text_of(sheet, run, &mut [0; 16384]));
     }
+    say_attrs(run.attrs);
 }
 
 // A run with attributes stands in brackets, its attributes behind it.
-fn show_run(h: Head, items: &[u64], units: &[u16], run: Run) {
-    let set = run.attrs;
-    if set.mask != 0 {
-        say(b"[");
-    }
-    if run.embed {
-        say(b"<");
-        say_number(run.number as u64);
-        say(b">");
+fn show_run(sheet: &Sheet, run: Run) {
+    if run.attrs.is_empty() {
+        show_content(sheet, run);
     } else {
-        show_text(h, items, units, run);
-    }
-    say_attrs(set);
-    if set.mask != 0 {
+        say(b"[");
+        show_content(sheet, run);
         say(b"]");
     }
 }
 
 // What `p` asks for: the visible text in one line, as a person reads it.
-pub fn show(h: Head, items: &[u64], units: &[u16]) {
-    let count = runs::calls::count_runs(h, items, units, true).count;
-    let mut n: u32 = 0;
-    while n < 2048 {
-        if n as usize >= count {
-            break;
+pub fn show(sheet: &Sheet) {
+    if let Some(all) = runs(sheet, true) {
+        for run in all {
+            show_run(sheet, run);
         }
-        let found = runs::calls::run_at(h, items, units, true, n);
-        let run = found.run;
-        show_run(h, items, units, run);
-        n += 1;
     }
     say(b"\n");
 }
 
-fn say_run(h: Head, items: &[u64], units: &[u16], run: Run) {
+fn say_run(sheet: &Sheet, run: Run) {
     if run.embed {
         say(b"e ");
-        say_number(run.number as u64);
+        say_number(u64::from(run.number));
     } else {
-        say_text(h, items, units, run);
+        say(b"t");
+        say_units(text_of(sheet, run, &mut [0; 16384]));
     }
-    let set = run.attrs;
-    say_attrs(set);
+    say_attrs(run.attrs);
     say(b"\n");
 }
 
 // One line a run, each behind `name`.
-fn say_runs(h: Head, items: &[u64], units: &[u16], joined: bool, name: &[u8]) {
-    let count = runs::calls::count_runs(h, items, units, joined).count;
-    let mut n: u32 = 0;
-    while n < 2048 {
-        if n as usize >= count {
-            return;
+fn say_runs(sheet: &Sheet, joined: bool, name: &[u8]) {
+    if let Some(all) = runs(sheet, joined) {
+        for run in all {
+            say(name);
+            say_run(sheet, run);
         }
-        say(name);
-        let found = runs::calls::run_at(h, items, units, joined, n);
-        let run = found.run;
-        say_run(h, items, units, run);
-        n += 1;
     }
 }
 
 // What stands at the end of the output.
-pub fn last(h: Head, items: &[u64], units: &[u16]) {
-    say_len(h, items, units);
-    say_runs(h, items, units, true, b"");
+pub fn last(sheet: &Sheet) {
+    say_len(sheet);
+    say_runs(sheet, true, b"");
 }
 
-fn say_content(h: Head, items: &[u64], units: &[u16], at: u32, content: Content) {
+fn say_content(sheet: &Sheet, at: u32, content: Content) {
     match content {
-        Content::Text { start: _, len: _ } => {
+        Content::Text { .. } => {
             say(b"item text");
-            say_units(items::text_of(h, items, units, at));
+            say_units(items::text_of(sheet.head, &sheet.items, &sheet.units, at));
         }
         Content::Embed(n) => {
             say(b"item embed ");
-            say_number(n as u64);
+            say_number(u64::from(n));
         }
         Content::Mark { key, value } => {
             say(b"item mark ");
-            say_number(key as u64);
+            say_number(u64::from(key));
             say(b"=");
-            say_number(value as u64);
+            say_number(u64::from(value));
         }
     }
 }
@@ -139,82 +141,69 @@ fn say_flags(it: Item) {
     say(b"\n");
 }
 
-fn wide(x: u32) -> usize {
-    x as usize
-}
-
-fn say_items(h: Head, items: &[u64], units: &[u16]) {
-    let mut at = h.first;
-    let mut k = h.items;
-    while k > 0 {
-        let i = wide(at);
-        if i >= items.len() {
+fn say_items(sheet: &Sheet) {
+    let mut at = sheet.head.first;
+    for _ in 0..sheet.head.items {
+        let Some(word) = sheet.items.get(at as usize) else {
             return;
-        }
-        let it = unpack(items[i]);
-        let content = it.content;
-        say_content(h, items, units, at, content);
+        };
+        let it = unpack(*word);
+        say_content(sheet, at, it.content);
         say_flags(it);
         at = it.next;
-        k -= 1;
     }
 }
 
-fn say_op(op: Op, set: Attrs, units: &[u16]) {
-    match op {
-        Op::Insert(what) => {
-            match what {
-                Inserted::Text { start, len } => {
-                    say(b"ev i");
-                    say_part(units, start, len);
-                }
-                Inserted::Embed(n) => {
-                    say(b"ev x ");
-                    say_number(n as u64);
-                }
-            }
-            say_attrs(set);
+fn say_op(d: DeltaOp, units: &[u16]) {
+    match d.op {
+        Op::Insert(Inserted::Text { start, len }) => {
+            say(b"ev i");
+            say_units(part(units, start, len));
+        }
+        Op::Insert(Inserted::Embed(n)) => {
+            say(b"ev x ");
+            say_number(u64::from(n));
         }
         Op::Delete(n) => {
             say(b"ev d ");
-            say_number(n as u64);
+            say_number(u64::from(n));
         }
         Op::Retain(n) => {
             say(b"ev r ");
-            say_number(n as u64);
-            say_attrs(set);
+            say_number(u64::from(n));
         }
+    }
+    if !matches!(d.op, Op::Delete(_)) {
+        say_attrs(d.attrs);
     }
     say(b"\n");
 }
 
-fn say_ops(words: &[u32], units: &[u16], count: u32) {
-    let mut i: u32 = 0;
-    while i < count {
-        let d = op_at(words, i);
-        let op = d.op;
-        let set = d.attrs;
-        match op {
-            Found::Is(o) => say_op(o, set, units),
-            Found::Nothing => {}
+fn say_event(sheet: &Sheet) {
+    let mut words = [0; 16384];
+    let mut units = [0; 16384];
+    let answer = event(
+        sheet.head,
+        &sheet.items,
+        &sheet.units,
+        &mut words,
+        &mut units,
+    );
+    if let Ok(written) = answer {
+        for i in 0..written.ops {
+            if let Some(d) = op_at(&words, i) {
+                say_op(d, &units);
+            }
         }
-        i += 1;
     }
 }
 
-fn say_event(h: Head, items: &[u64], units: &[u16]) {
-    let mut words = [0u32; 16384];
-    let mut out = [0u16; 16384];
-    let got = events::event::event(h, items, units, &mut words, &mut out);
-    say_ops(&words, &out, got.ops);
-}
-
 // What `q` asks for.
-pub fn query(h: Head, items: &[u64], units: &[u16]) {
-    say_items(h, items, units);
-    say_len(h, items, units);
-    say_runs(h, items, units, false, b"run ");
-    say_runs(h, items, units, true, b"joined ");
-    say_event(h, items, units);
+pub fn query(sheet: &Sheet) {
+    say_items(sheet);
+    say_len(sheet);
+    say_runs(sheet, false, b"run ");
+    say_runs(sheet, true, b"joined ");
+    say_event(sheet);
     say(b".\n");
 }

@@ -1,49 +1,33 @@
 // A delta, from its line to the sheet.
 use crate::say::{say_no_call, say_refused};
-use crate::state::{State, told};
+use crate::state::{Sheet, State};
 use deltas::apply::apply_delta;
-use layout::head::Head;
 use lines::deltas::{AskedDelta, read_delta};
+use lines::fields::End;
 
-fn applied(
-    h: Head,
-    asked: AskedDelta,
-    chunk: &[u16],
-    items: &mut [u64],
-    units: &mut [u16],
-) -> Head {
-    if asked.refusal != 0 {
-        say_refused(asked.refusal);
-        return h;
+fn applied(sheet: &mut Sheet, asked: AskedDelta, chunk: &[u16]) {
+    if let Some(refusal) = asked.refusal {
+        say_refused(refusal);
+        return;
     }
-    let scratch_items = [0u64; 2048];
-    let scratch_units = [0u16; 16384];
-    let delta = asked.delta;
-    told(apply_delta(
-        h,
-        items,
-        units,
-        delta,
+    let answer = apply_delta(
+        sheet.head,
+        &mut sheet.items,
+        &mut sheet.units,
+        asked.delta,
         chunk,
-        &scratch_items,
-        &scratch_units,
-    ))
+        &[0; 2048],
+        &[0; 16384],
+    );
+    sheet.told(answer);
 }
 
-pub fn delta_line(
-    s: State,
-    line: &[u8],
-    number: u64,
-    items: &mut [u64],
-    units: &mut [u16],
-) -> State {
-    let mut text = [0u16; 32768];
-    let asked = read_delta(line, &mut text);
-    if asked.end != 1 {
+pub fn delta_line(s: &mut State, line: &[u8], number: u64) {
+    let asked = read_delta(line, &mut s.text);
+    if asked.end != End::Line {
         say_no_call(number);
-        return s;
+        return;
     }
-    let head = s.head;
-    let n = asked.count;
-    State::with(applied(head, asked, &text[..n], items, units), s.names)
+    applied(&mut s.sheet, asked, &s.text[..asked.count]);
+    s.touched = true;
 }

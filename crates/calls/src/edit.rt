@@ -3,23 +3,20 @@ use crate::answer::{last, query, show};
 use crate::delta::delta_line;
 use crate::names::entry_line;
 use crate::say::{say, say_no_call, say_refused};
-use crate::state::{State, told};
-use attrs::Attrs;
-use items::{Answer, begin};
+use crate::state::{Sheet, State};
+use items::begin;
 use layout::head::Head;
 use lines::calls::{Asked, Call, read_call};
+use refusal::Refusal;
 use sheet::insert::{insert, insert_embed, insert_embed_with_attributes, insert_with_attributes};
 use sheet::range::{format, remove_range};
 
-fn carried(
-    h: Head,
-    call: Call,
-    set: Attrs,
-    chunk: &[u16],
-    items: &mut [u64],
-    units: &mut [u16],
-) -> Answer {
-    match call {
+fn carried(sheet: &mut Sheet, asked: Asked, chunk: &[u16]) -> Result<Head, Refusal> {
+    let h = sheet.head;
+    let items = &mut sheet.items;
+    let units = &mut sheet.units;
+    let set = asked.attrs;
+    match asked.call {
         Call::Insert(index) => insert(h, items, units, index, chunk),
         Call::InsertWith(index) => insert_with_attributes(h, items, units, index, chunk, set),
         Call::Embed { index, n } => insert_embed(h, items, units, index, n),
@@ -32,57 +29,37 @@ fn carried(
     }
 }
 
-fn edited(h: Head, asked: Asked, chunk: &[u16], items: &mut [u64], units: &mut [u16]) -> Head {
-    if asked.refusal != 0 {
-        say_refused(asked.refusal);
-        return h;
+fn edited(sheet: &mut Sheet, asked: Asked, chunk: &[u16]) {
+    if let Some(refusal) = asked.refusal {
+        say_refused(refusal);
+        return;
     }
-    let call = asked.call;
-    let set = asked.attrs;
-    told(carried(h, call, set, chunk, items, units))
+    let answer = carried(sheet, asked, chunk);
+    sheet.told(answer);
 }
 
 // A fresh sheet and table, where a call was made.
-fn fresh(s: State, items: &[u64], units: &[u16]) -> State {
-    if !s.touched {
-        return s;
+fn fresh(s: &mut State) {
+    if s.touched {
+        last(&s.sheet);
+        say(b"new\n");
+        s.clear();
     }
-    last(s.head, items, units);
-    say(b"new\n");
-    State::fresh()
 }
 
-pub fn run_line(
-    s: State,
-    line: &[u8],
-    number: u64,
-    text: &mut [u16],
-    items: &mut [u64],
-    units: &mut [u16],
-    table: &mut [u8],
-) -> State {
-    let asked = read_call(line, text);
-    let call = asked.call;
-    let n = asked.count;
-    let head = s.head;
-    let names = s.names;
-    match call {
-        Call::Nothing => s,
-        Call::Fresh => fresh(s, items, units),
-        Call::Wrong => {
-            say_no_call(number);
-            s
-        }
-        Call::Delta => delta_line(s, line, number, items, units),
-        Call::Entry => State::with(head, entry_line(names, line, number, table)),
-        Call::Query => {
-            query(head, items, units);
-            State::with(head, names)
-        }
-        Call::Show => {
-            show(head, items, units);
-            State::with(head, names)
-        }
-        _ => State::with(edited(head, asked, &text[..n], items, units), names),
+pub fn run_line(s: &mut State, line: &[u8], number: u64) {
+    let Some(asked) = read_call(line, &mut s.text) else {
+        say_no_call(number);
+        return;
+    };
+    match asked.call {
+        Call::Silent => return,
+        Call::Fresh => return fresh(s),
+        Call::Delta => return delta_line(s, line, number),
+        Call::Entry => entry_line(&mut s.names, line, number),
+        Call::Query => query(&s.sheet),
+        Call::Show => show(&s.sheet),
+        _ => edited(&mut s.sheet, asked, &s.text[..asked.count]),
     }
+    s.touched = true;
 }

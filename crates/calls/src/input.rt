@@ -1,178 +1,125 @@
 // Lines from standard input, which comes in parts.
-ghost use Rattle.std.specs.Prelude.{◌+◌, ◌<◌, ◌≤◌, length};
-ghost use Rattle.calls.specs.Waits.{Waits};
+ghost use Rattle.std.specs.Prelude.{◌+◌, ◌<◌, ◌≤◌};
+ghost use Rattle.calls.specs.declared.input.TheConstants.{ROOM};
 
 use crate::edit::run_line;
 use crate::say::say_no_call;
 use crate::state::State;
 use std::io::{Read, Stdin};
-use words::input::{Line, first_line, to_front};
+use words::input::{first_line, to_front};
 
-// The bytes from `start` up to `end` wait. `line` lines have begun; `long` while what comes is the rest of one that is too long.
+pub const ROOM: usize = 135168;
+
+// Bytes of the buffer that wait to be handed out.
 #[derive(Clone, Copy)]
-pub struct Place {
+pub struct Waiting {
     pub start: usize,
     pub end: usize,
+    pub ghost order: { start ≤ end },
+    pub ghost within: { end ≤ ROOM },
+}
+
+// `line` lines have begun; `long` while what comes is the rest of one that is too long.
+#[derive(Clone, Copy)]
+pub struct Place {
+    pub waiting: Waiting,
     pub line: u64,
     pub long: bool,
     pub more: bool,
-    pub state: State,
 }
 
 // A line whose newline stands `e` bytes behind the start.
-fn whole(
-    p: Place,
-    e: usize,
-    buf: &[u8],
-    text: &mut [u16],
-    items: &mut [u64],
-    units: &mut [u16],
-    table: &mut [u8],
-) -> Place
-    requires waits { Waits buf.now p.start p.end }
-    requires e_bound { p.start + e < p.end }
-    ensures { Waits buf.now result.start result.end }
+fn whole(p: Place, e: usize, buf: &[u8; ROOM], state: &mut State) -> Place
+    requires { p.waiting.start + e < p.waiting.end }
 {
-    let start = p.start;
+    let Waiting { start, end } = p.waiting;
     let stop = start + e;
-    let next = stop + 1;
-    let old = p.state;
+    let waiting = Waiting {
+        start: stop + 1,
+        end,
+    };
     if p.long {
         return Place {
-            start: next,
-            end: p.end,
-            line: p.line,
+            waiting,
             long: false,
-            more: true,
-            state: old,
+            ..p
         };
     }
-    let line = std::num::wrapping_add_u64(p.line, 1);
-    let state = run_line(old, &buf[start..stop], line, text, items, units, table);
-    Place {
-        start: next,
-        end: p.end,
-        line,
-        long: false,
-        more: true,
-        state,
+    let line = p.line.wrapping_add(1);
+    run_line(state, &buf[start..stop], line);
+    Place { waiting, line, ..p }
+}
+
+// The first n bytes, with one more part behind them; nothing comes at the end of the input, and where a read fails.
+fn read_behind(mut stdin: Stdin, buf: &mut [u8; ROOM], n: usize) -> Waiting
+    requires { n ≤ ROOM }
+    ensures { n ≤ result.end }
+{
+    let more = stdin.read(&mut buf[n..]).unwrap_or(0);
+    Waiting {
+        start: 0,
+        end: n + more,
     }
 }
 
-// Where the bytes end that wait, with one more part behind the first n; nothing comes at the end of the input, and where a read fails.
-fn read_behind(mut stdin: Stdin, buf: &mut [u8], n: usize) -> usize
-    requires { n ≤ length buf.old }
-    ensures { Waits buf.new n result }
+fn refilled(stdin: Stdin, p: Place, buf: &mut [u8; ROOM], n: usize) -> Place
+    requires { n ≤ ROOM }
 {
-    let got = stdin.read(&mut buf[n..]);
-    let more = got.unwrap_or(0);
-    n + more
-}
-
-fn refilled(stdin: Stdin, p: Place, buf: &mut [u8], n: usize, line: u64, long: bool) -> Place
-    requires { n ≤ length buf.old }
-    ensures { Waits buf.new result.start result.end }
-{
-    let state = p.state;
-    let end = read_behind(stdin, buf, n);
+    let waiting = read_behind(stdin, buf, n);
     Place {
-        start: 0,
-        end,
-        line,
-        long,
-        more: n < end,
-        state,
+        waiting,
+        more: n < waiting.end,
+        ..p
     }
 }
 
 // No newline waits. A line that fills the buffer is no call, and what is left of it is passed over.
-fn part(stdin: Stdin, p: Place, buf: &mut [u8]) -> Place
-    requires { Waits buf.old p.start p.end }
-    ensures { Waits buf.new result.start result.end }
-{
-    let start = p.start;
-    let end = p.end;
+fn part(stdin: Stdin, p: Place, buf: &mut [u8; ROOM]) -> Place {
     if p.long {
-        return refilled(stdin, p, buf, 0, p.line, true);
+        return refilled(stdin, p, buf, 0);
     }
-    let n = to_front(buf, start, end);
-    if n == buf.len() {
-        let line = std::num::wrapping_add_u64(p.line, 1);
-        say_no_call(line);
-        return refilled(stdin, p, buf, 0, line, true);
+    let n = to_front(buf, p.waiting.start, p.waiting.end);
+    if n < ROOM {
+        return refilled(stdin, p, buf, n);
     }
-    refilled(stdin, p, buf, n, p.line, false)
+    let line = p.line.wrapping_add(1);
+    say_no_call(line);
+    let long = Place {
+        line,
+        long: true,
+        ..p
+    };
+    refilled(stdin, long, buf, 0)
 }
 
-fn step(
-    stdin: Stdin,
-    p: Place,
-    buf: &mut [u8],
-    text: &mut [u16],
-    items: &mut [u64],
-    units: &mut [u16],
-    table: &mut [u8],
-) -> Place
-    requires { Waits buf.old p.start p.end }
-    ensures { Waits buf.new result.start result.end }
-{
-    let start = p.start;
-    let end = p.end;
-    let found = first_line(buf, start, end);
-    match found {
-        Line::Whole(e) => whole(p, e, buf, text, items, units, table),
-        Line::Part => part(stdin, p, buf),
+fn step(stdin: Stdin, p: Place, buf: &mut [u8; ROOM], state: &mut State) -> Place {
+    match first_line(buf, p.waiting.start, p.waiting.end) {
+        Some(e) => whole(p, e, buf, state),
+        None => part(stdin, p, buf),
     }
 }
 
 // What waits at the end of the input is a line too.
-fn rest(
-    p: Place,
-    buf: &[u8],
-    text: &mut [u16],
-    items: &mut [u64],
-    units: &mut [u16],
-    table: &mut [u8],
-) -> State
-    requires { Waits buf.now p.start p.end }
-{
-    let start = p.start;
-    let end = p.end;
-    let state = p.state;
-    if p.long {
-        return state;
+fn rest(p: Place, buf: &[u8; ROOM], state: &mut State) {
+    let Waiting { start, end } = p.waiting;
+    if !p.long && start < end {
+        run_line(state, &buf[start..end], p.line.wrapping_add(1));
     }
-    if start == end {
-        return state;
-    }
-    let line = std::num::wrapping_add_u64(p.line, 1);
-    run_line(state, &buf[start..end], line, text, items, units, table)
 }
 
-// A proved loop ends, and nothing says that the input does: the turns are counted down from a number that no run uses up.
-pub fn all_lines(
-    stdin: Stdin,
-    buf: &mut [u8],
-    text: &mut [u16],
-    items: &mut [u64],
-    units: &mut [u16],
-    table: &mut [u8],
-) -> State {
+// A proved loop ends, and nothing says that the input does: the turns are counted up to a number that no run reaches.
+pub fn all_lines(stdin: Stdin, buf: &mut [u8; ROOM], state: &mut State) {
     let mut p = Place {
-        start: 0,
-        end: 0,
+        waiting: Waiting { start: 0, end: 0 },
         line: 0,
         long: false,
         more: true,
-        state: State::fresh(),
     };
-    let mut turns = u64::MAX;
-    while turns > 0 {
+    for _ in 0..u64::MAX {
         if !p.more {
-            return rest(p, buf, text, items, units, table);
+            rest(p, buf, state);
+            return;
         }
-        p = step(stdin, p, buf, text, items, units, table);
-        turns -= 1;
+        p = step(stdin, p, buf, state);
     }
-    p.state
 }

@@ -10,21 +10,11 @@ mod names; // a line for the table
 mod edit; // one line's call
 mod input; // lines from standard input
 
-use layout::head::Head;
+use state::State;
 
 fn main(rt: HostRuntime) {
-    let mut items = [0u64; 2048];
-    let mut units = [0u16; 16384];
-    let mut text = [0u16; 32768];
-    let mut table = [0u8; 9214];
-    let mut buf = [0u8; 135168];
-    let end = input::all_lines(
-        rt.stdin(),
-        &mut buf,
-        &mut text,
-        &mut items,
-        &mut units,
-        &mut table,
-    );
-    answer::last(end.head, &items, &units);
+    let mut buf = [0; input::ROOM];
+    let mut state = State::fresh();
+    input::all_lines(rt.stdin(), &mut buf, &mut state);
+    answer::last(&state.sheet);
 }

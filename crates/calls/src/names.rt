@@ -1,24 +1,27 @@
 // The table of names and values.
 use crate::say::{say, say_no_call, say_number, say_refused};
-use entries::integers::{bits_of, integer_of};
+use crate::state::Names;
 use lines::asks::{Entry, read_entry};
 use lookup::{Shown, name_bytes, string_bytes, value_at};
-use table::{Asked, TableHead, ask_bool, ask_int, ask_name, ask_string};
+use refusal::Refusal;
+use table::{Asked, ask_bool, ask_int, ask_name, ask_string};
 
-fn answered(a: Asked, what: &[u8]) -> TableHead {
-    if a.refusal != 0 {
-        say_refused(a.refusal);
-        return a.head;
+// A refused call leaves the head as it was.
+fn told(names: &mut Names, answer: Result<Asked, Refusal>, what: &[u8]) {
+    match answer {
+        Ok(asked) => {
+            say(what);
+            say_number(u64::from(asked.number));
+            say(b"\n");
+            names.head = asked.head;
+        }
+        Err(refusal) => say_refused(refusal),
     }
-    say(what);
-    say_number(a.number as u64);
-    say(b"\n");
-    a.head
 }
 
-fn show_name(h: TableHead, table: &[u8], n: u32) {
-    let name = name_bytes(h, table, n);
-    if name.len() == 0 {
+fn show_name(names: &Names, n: u32) {
+    let name = name_bytes(names.head, &names.table, n);
+    if name.is_empty() {
         say(b"none\n");
         return;
     }
@@ -27,53 +30,55 @@ fn show_name(h: TableHead, table: &[u8], n: u32) {
     say(b"\n");
 }
 
-// By its two's complement, so that the least integer is written too.
 fn say_integer(n: i64) {
-    let bits = bits_of(n);
     say(b"integer ");
-    if bits < 9223372036854775808 {
-        say_number(bits);
-    } else {
+    if n < 0 {
         say(b"-");
-        say_number(18446744073709551615 - bits + 1);
     }
+    say_number(n.unsigned_abs());
     say(b"\n");
 }
 
-fn show_value(h: TableHead, table: &[u8], v: u32) {
-    let shown = value_at(h, table, v);
-    match shown {
-        Shown::Nothing => say(b"none\n"),
-        Shown::Bool(b) => if b { say(b"true\n") } else { say(b"false\n") },
-        Shown::Int(n) => say_integer(n),
-        Shown::String => {
+fn show_value(names: &Names, v: u32) {
+    match value_at(names.head, &names.table, v) {
+        None => say(b"none\n"),
+        Some(Shown::Bool(true)) => say(b"true\n"),
+        Some(Shown::Bool(false)) => say(b"false\n"),
+        Some(Shown::Int(n)) => say_integer(n),
+        Some(Shown::String) => {
             say(b"string ");
-            say(string_bytes(h, table, v));
+            say(string_bytes(names.head, &names.table, v));
             say(b"\n");
         }
     }
 }
 
-pub fn entry_line(h: TableHead, line: &[u8], number: u64, table: &mut [u8]) -> TableHead {
+pub fn entry_line(names: &mut Names, line: &[u8], number: u64) {
     let asked = read_entry(line);
-    let at = asked.at;
-    let entry = asked.entry;
+    let Some(entry) = asked.entry else {
+        say_no_call(number);
+        return;
+    };
+    let h = names.head;
+    let bytes = &line[asked.at..];
     match entry {
-        Entry::Name => answered(ask_name(h, table, &line[at..]), b"key "),
-        Entry::String => answered(ask_string(h, table, &line[at..]), b"value "),
-        Entry::Bool(b) => answered(ask_bool(h, table, b), b"value "),
-        Entry::Integer(u) => answered(ask_int(h, table, integer_of(u)), b"value "),
-        Entry::NameOf(n) => {
-            show_name(h, table, n);
-            h
+        Entry::Name => {
+            let answer = ask_name(h, &mut names.table, bytes);
+            told(names, answer, b"key ");
         }
-        Entry::ValueOf(v) => {
-            show_value(h, table, v);
-            h
+        Entry::String => {
+            let answer = ask_string(h, &mut names.table, bytes);
+            told(names, answer, b"value ");
         }
-        Entry::Wrong => {
-            say_no_call(number);
-            h
+        Entry::Bool(b) => {
+            let answer = ask_bool(h, &mut names.table, b);
+            told(names, answer, b"value ");
         }
+        Entry::Integer(u) => {
+            let answer = ask_int(h, &mut names.table, i64::from_le_bytes(u.to_le_bytes()));
+            told(names, answer, b"value ");
+        }
+        Entry::NameOf(n) => show_name(names, n),
+        Entry::ValueOf(v) => show_value(names, v),
     }
 }

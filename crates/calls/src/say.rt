@@ -3,6 +3,7 @@ ghost use Rattle.std.specs.Prelude.{◌+◌, ◌≤◌, length};
 ghost use Rattle.io.specs.Counts.{IsPrefixLen};
 
 use attrs::Attrs;
+use refusal::Refusal;
 use words::show::{put_attrs, put_unit};
 
 // The number that the system gives standard output.
@@ -17,9 +18,9 @@ pub fn say_number(x: u64) {
 }
 
 pub fn say_attrs(set: Attrs) {
-    let mut text = [0u8; 672];
+    let mut text = [0; 672];
     let n = put_attrs(&mut text, 0, set);
-    io::write_all(STDOUT_FILENO, &text[..n]);
+    say(&text[..n]);
 }
 
 // Behind n bytes that wait, which are written first where there is no room.
@@ -31,7 +32,7 @@ fn add_unit(out: &mut [u8], n: usize, u: u16) -> usize
     if out.len() - n >= 5 {
         return put_unit(out, n, u);
     }
-    io::write_all(STDOUT_FILENO, &out[..n]);
+    say(&out[..n]);
     put_unit(out, 0, u)
 }
 
@@ -41,10 +42,8 @@ fn add_units(out: &mut [u8], units: &[u16]) -> usize
     ensures { IsPrefixLen result out.new }
 {
     let mut n = 0;
-    let mut i = 0;
-    while i < units.len() {
-        n = add_unit(out, n, units[i]);
-        i += 1;
+    for u in units {
+        n = add_unit(out, n, *u);
     }
     n
 }
@@ -53,12 +52,12 @@ fn add_units(out: &mut [u8], units: &[u16]) -> usize
 pub fn say_units(units: &[u16]) {
     let mut out = io::buffer();
     let n = add_units(&mut out, units);
-    io::write_all(STDOUT_FILENO, &out[..n]);
+    say(&out[..n]);
 }
 
-pub fn say_refused(refusal: u32) {
+pub fn say_refused(refusal: Refusal) {
     say(b"refused ");
-    say_number(refusal as u64);
+    say_number(u64::from(u32::from(refusal)));
     say(b"\n");
 }
 

@@ -1,40 +1,73 @@
 // What is kept from line to line.
 use crate::say::say_refused;
-use items::Answer;
 use layout::head::Head;
+use refusal::Refusal;
 use table::TableHead;
 
-// The heads of the sheet and of the table, and whether a call was made.
-#[derive(Clone, Copy)]
-pub struct State {
+#[derive(Drop)]
+pub struct Sheet {
     pub head: Head,
-    pub names: TableHead,
+    pub items: [u64; 2048],
+    pub units: [u16; 16384],
+}
+
+impl Sheet {
+    fn fresh() -> Sheet {
+        Sheet {
+            head: Head::fresh(),
+            items: [0; 2048],
+            units: [0; 16384],
+        }
+    }
+
+    // After a call: a refused one leaves the head as it was.
+    pub fn told(&mut self, answer: Result<Head, Refusal>) {
+        match answer {
+            Ok(head) => self.head = head,
+            Err(refusal) => say_refused(refusal),
+        }
+    }
+}
+
+// The table of names and values.
+#[derive(Drop)]
+pub struct Names {
+    pub head: TableHead,
+    pub table: [u8; TableHead::BYTES],
+}
+
+impl Names {
+    fn fresh() -> Names {
+        Names {
+            head: TableHead::fresh(),
+            table: [0; TableHead::BYTES],
+        }
+    }
+}
+
+// The sheet and the table, the units of the texts of the line at hand, and whether a call was made.
+#[derive(Drop)]
+pub struct State {
+    pub sheet: Sheet,
+    pub names: Names,
+    pub text: [u16; 32768],
     pub touched: bool,
 }
 
 impl State {
     pub fn fresh() -> State {
         State {
-            head: Head::fresh(),
-            names: TableHead::fresh(),
+            sheet: Sheet::fresh(),
+            names: Names::fresh(),
+            text: [0; 32768],
             touched: false,
         }
     }
 
-    // After a call.
-    pub fn with(head: Head, names: TableHead) -> State {
-        State {
-            head,
-            names,
-            touched: true,
-        }
+    // A fresh sheet and table; what their heads do not count is not read.
+    pub fn clear(&mut self) {
+        self.sheet.head = Head::fresh();
+        self.names.head = TableHead::fresh();
+        self.touched = false;
     }
-}
-
-// The head after a call.
-pub fn told(a: Answer) -> Head {
-    if a.refusal != 0 {
-        say_refused(a.refusal);
-    }
-    a.head
 }

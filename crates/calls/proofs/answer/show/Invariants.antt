@@ -1,8 +1,9 @@
-use Rattle.std.proofs.Common.{◌-◌, ◌≤◌}
+-- The next run can be asked for, and takes an item.
+use Rattle.cursors.specs.Cursors.{Ready}
 use Rattle.calls.proofs.answer.show.Given as goal
 
-abbrev pub invariant-loop-n : goal.invariant-loop-n
-invariant-loop-n l = l.n ≤ 2048
+abbrev pub invariant-loop-run : goal.invariant-loop-run
+invariant-loop-run l = Ready l.run-iterator
 
-abbrev pub decreases-loop-n : goal.decreases-loop-n
-decreases-loop-n l = 2048 - l.n
+abbrev pub decreases-loop-run : goal.decreases-loop-run
+decreases-loop-run l = l.run-iterator.spot.todo

@@ -1,8 +1,9 @@
-use Rattle.std.proofs.Common.{sym, ◌∙◌}
+-- A newline that was found lies in front of the end.
+use Rattle.std.proofs.Common.{sym, arith}
 use Rattle.words.proofs.Moving.{whole-within}
 use Rattle.calls.proofs.input.step.Goals as goal
 
 pub whole-requires : goal.whole-requires
 whole-requires c =
-    let w = c.requires in
-    record { waits = w; e_bound = whole-within c.args.buf.now _ _ _ w.order w.within (sym c.first_line-found.ensures ∙ c.in-Whole.is) }
+    let w = c.args.p.waiting in
+    whole-within c.args.buf.now _ _ _ w.order (omega (arith, w.within)) (sym c.in-Some.ensures)
