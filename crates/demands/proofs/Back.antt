@@ -1,20 +1,21 @@
 -- What `event` writes is read back as the event: operation by operation, with its set and its units.
 use Prim.Native.Nat.{ℕ, zero, suc, ◌+◌, ◌<◌}
+use Rattle.std.proofs.Common.{rules}
 use native.Mathlib.Omega.{arith}
 use mathlib.Core.Path.{◌≡◌, refl, sym, ap, ap₂, ◌∙◌}
 use mathlib.Core.List.{List, [], ◌∷◌, ◌++◌, map, append_assoc}
 use lib.ListN.{length, get_or, take, drop, length-append}
 use lib.Seq.{take-append_seam, drop_at}
-use Rattle.sets.specs.Sets.{Slot, absent, is, Set, empty}
+use Rattle.std.specs.Prelude.{Some}
+use Rattle.sets.specs.Sets.{Slot, Set}
 use Rattle.attrs.specs.Packed.{Held, hidden, byte, store, values_of, make, says, packed}
 use Rattle.attrs.proofs.Says.{says-packed, whole-packed}
 use Rattle.attrs.proofs.Force.{Keyed, within_keyed}
 use Rattle.rules.specs.Reading.{Glyph, unit, thing, Op, insert, delete, retain}
 use Rattle.rules.specs.Event.{in_units}
 use Rattle.ops.specs.declared.delta.DeltaOp.{DeltaOp}
-use Rattle.encoding.specs.declared.MaybeOp.{MaybeOp}
 use Rattle.encoding.specs.Words.{all_words, found_at}
-use Rattle.encoding.proofs.Back.{Lawful, found, read_back_lem}
+use Rattle.encoding.proofs.Back.{Lawful, read_back_lem}
 use Rattle.events.specs.Told.{Ops, units_in, part_of, delta_of, delta_ops, encoded, units_for, texts}
 use Rattle.events.proofs.Texts.{length_for}
 use Rattle.demands.specs.Written.{part_in, op_in, ops_found, read_back, spelled, spelled_op}
@@ -22,14 +23,12 @@ use Rattle.demands.proofs.Fair.{Fair, FairSet, AllUnits, Lone, FairOp, FairOps}
 
 -- ---- a set
 store_byte : (k : ℕ) (s : Slot) → Fair k s → byte (store s (hidden 0)) < 256
-store_byte k absent f = omega arith
-store_byte k (is v) f = f.1
+store_byte k s f = grind (rules, arith)
 
 values-byte : (n : ℕ) (f : ℕ → Held) → ((k : ℕ) → byte (f k) < 256) → (k : ℕ) → get_or (values_of n f) k 0 < 256
 unfolding values_of
 values-byte zero f h k = omega arith
-values-byte (suc n) f h zero = h 0
-values-byte (suc n) f h (suc k) = values-byte n (λ k. f (suc k)) (λ k. h (suc k)) k
+values-byte (suc n) f h k = grind (rules, h, values-byte n)
 
 packed_byte : (a : Set) → FairSet a → (k : ℕ) → get_or (packed a).values k 0 < 256
 unfolding packed make
@@ -39,11 +38,7 @@ pub packed_lawful : (a : Set) → FairSet a → Lawful (packed a)
 packed_lawful a f = record { fits = (whole-packed a).fits; long = (whole-packed a).long; bytes = packed_byte a f }
 
 fair_keyed : (a : Set) → FairSet a → Keyed a
-fair_keyed a f k l = go (a k) (f k)
-  where
-    go : (s : Slot) → Fair k s → s ≡ absent
-    go absent g = refl
-    go (is v) g = absurd (omega (arith, g.0))
+fair_keyed a f k l = grind (rules, arith, f k)
 
 -- what is packed says what it was packed from
 pub says_back : (a : Set) → FairSet a → says (packed a) ≡ a
@@ -52,8 +47,7 @@ says_back a f = says-packed a ∙ within_keyed a (fair_keyed a f)
 -- ---- an operation
 units-spelled : (u : List ℕ) (gs : List Glyph) → AllUnits gs → map unit (units_for u gs) ≡ map (spelled u) gs
 units-spelled u [] f = refl
-units-spelled u (unit p ∷ gs) f = ap (λ (x : List Glyph). unit (get_or u p 0) ∷ x) (units-spelled u gs f)
-units-spelled u (thing e ∷ gs) f = absurd f
+units-spelled u (g ∷ gs) f = grind (rules, units-spelled u gs)
 
 -- the units of a text, where they stand
 text_at : (u : List ℕ) (gs : List Glyph) (p : ℕ) (before behind : List ℕ) → length before ≡ p → take (in_units gs) (drop p (before ++ (units_for u gs ++ behind))) ≡ units_for u gs
@@ -73,26 +67,18 @@ text_of u (delete n) = []
 text_of u (retain n a) = []
 
 text-long : (u : List ℕ) (op : Op (List Glyph)) → length (text_of u op) ≡ units_in op
-text-long u (insert gs a) = length_for u gs
-text-long u (delete n) = refl
-text-long u (retain n a) = refl
+text-long u op = grind (rules, length_for)
 
 texts-on : (u : List ℕ) (op : Op (List Glyph)) (ops : Ops) → texts u (op ∷ ops) ≡ text_of u op ++ texts u ops
 unfolding texts
-texts-on u (insert gs a) ops = refl
-texts-on u (delete n) ops = refl
-texts-on u (retain n a) ops = refl
+texts-on u op ops = grind rules
 
 op_lawful : (p : ℕ) (op : Op (List Glyph)) → FairOp op → Lawful (delta_of p op).attrs
-op_lawful p (insert gs a) f = packed_lawful a f.1
-op_lawful p (delete n) f = packed_lawful empty (λ k. tt)
-op_lawful p (retain n a) f = packed_lawful a f
+op_lawful p op f = grind (rules, packed_lawful)
 
 op-spelled : (u : List ℕ) (op : Op (List Glyph)) (p : ℕ) (before behind : List ℕ) → length before ≡ p → FairOp op
     → op_in (before ++ (text_of u op ++ behind)) (delta_of p op).op (delta_of p op).attrs ≡ spelled_op u op
-op-spelled u (insert gs a) p before behind e f = ap₂ (λ (x : List Glyph) (y : Set). insert x y) (part-back u gs p before behind e f.0) (says_back a f.1)
-op-spelled u (delete n) p before behind e f = refl
-op-spelled u (retain n a) p before behind e f = ap (retain n) (says_back a f)
+op-spelled u op p before behind e f = grind (rules, part-back, says_back)
 
 -- ---- all of them
 module _ (u ws : List ℕ) (os : List ℕ) where
@@ -108,15 +94,15 @@ module _ (u ws : List ℕ) (os : List ℕ) where
       let o' : (done ++ text_of u op) ++ (texts u ops ++ os) ≡ done ++ (text_of u op ++ (texts u ops ++ os)) = append_assoc done (text_of u op) (texts u ops ++ os) in
       let w' : all_words ((pre ++ (d ∷ [])) ++ rest) ++ ws ≡ w = ap (λ (x : List DeltaOp). all_words x ++ ws) (append_assoc pre (d ∷ []) rest) in
       let n : length (pre ++ (d ∷ [])) ≡ suc (length pre) = omega (arith, length-append pre (d ∷ [])) in
-      let first : found_at w (length pre) ≡ found d = read_back_lem pre rest d ws (op_lawful p op f.0) in
+      let first : found_at w (length pre) ≡ Some d = read_back_lem pre rest d ws (op_lawful p op f.0) in
       let later = back ops (pre ++ (d ∷ [])) (p + units_in op) (done ++ text_of u op) (omega (arith, length-append done (text_of u op), text-long u op)) f.1 in
-      let here : ops_found (done ++ (text_of u op ++ (texts u ops ++ os))) (found_at w (length pre)).op (found_at w (length pre)).attrs ≡ spelled_op u op ∷ [] =
-      ap (λ (x : MaybeOp). ops_found (done ++ (text_of u op ++ (texts u ops ++ os))) x.op x.attrs) first
+      let here : ops_found (done ++ (text_of u op ++ (texts u ops ++ os))) (found_at w (length pre)) ≡ spelled_op u op ∷ [] =
+      ap (ops_found (done ++ (text_of u op ++ (texts u ops ++ os)))) first
       ∙ ap (λ (x : Op (List Glyph)). x ∷ []) (op-spelled u op p done (texts u ops ++ os) e f.0) in
       let more : read_back (suc (length pre)) (length ops) w (done ++ (text_of u op ++ (texts u ops ++ os))) ≡ map (spelled_op u) ops =
       sym (ap (λ (x : ℕ). read_back x (length ops) w (done ++ (text_of u op ++ (texts u ops ++ os)))) n)
       ∙ sym (ap₂ (λ (x y : List ℕ). read_back (length (pre ++ (d ∷ []))) (length ops) x y) w' o') ∙ later in
-      ap (λ (x : List ℕ). ops_found x (found_at w (length pre)).op (found_at w (length pre)).attrs ++ read_back (suc (length pre)) (length ops) w x) o
+      ap (λ (x : List ℕ). ops_found x (found_at w (length pre)) ++ read_back (suc (length pre)) (length ops) w x) o
       ∙ ap₂ (λ (x y : Ops). x ++ y) here more
 
   -- What stands at the front of both buffers is the event.

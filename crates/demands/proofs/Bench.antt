@@ -1,12 +1,12 @@
 -- The starred bench pieces hold in memory, from a fresh head and whatever lies in the buffers. Assumes nothing.
 use Prim.Native.Nat.{ℕ, ◌≤◌, ◌<◌}
 use native.Mathlib.Omega.{arith}
+use Rattle.std.proofs.Common.{rules}
 use mathlib.Core.Path.{◌≡◌, refl, ap, ap₂, subst⁻¹, ◌∙◌}
-use mathlib.Core.Bool.{Bool, true, false, cond}
+use mathlib.Core.Bool.{true}
 use mathlib.Core.List.{List, [], ◌∷◌, ◌++◌, map, map_congr_left}
-use lib.Dec.{eqb}
-use lib.ListN.{length, take, drop}
-use Rattle.sets.specs.Sets.{absent, is, empty, keys}
+use lib.ListN.{length}
+use Rattle.sets.specs.Sets.{empty, keys}
 use Rattle.rules.specs.Calls.{Sheet, fresh_sheet, Call, insert_text, call}
 use Rattle.rules.specs.Rulings.{Byte, FineSet}
 use Rattle.rules.specs.PieceParts.{answer, Piece, piece, after as ruled_after, refusals, played, one}
@@ -41,7 +41,7 @@ made-lies m u words room ts d = after-sound ts d (fresh_state m u) (fresh-lies m
 -- ---- one piece
 calls_same : (cs : List Call) → calls_of (map does cs) ≡ cs
 calls_same [] = refl
-calls_same (c ∷ cs) = ap (λ (x : List Call). c ∷ x) (calls_same cs)
+calls_same (c ∷ cs) = grind (rules, calls_same cs)
 
 -- its start is its text put into a fresh sheet, and its calls can be handed in
 abbrev Ready : Piece → Type 0
@@ -68,18 +68,14 @@ module _ (m u w o : List ℕ) (words : length m ≡ 2048) (room : length u ≡ 1
 
   all_same : (ps : List Piece) → AllReady ps → map (played_in m u w o) ps ≡ map played ps
   all_same [] r = refl
-  all_same (p ∷ ps) r = ap₂ (λ (x : Piece) (xs : List Piece). x ∷ xs) (played-same p r.0) (all_same ps r.1)
+  all_same (p ∷ ps) r = grind (rules, played-same, all_same ps)
 
 -- ---- the list
 one_fine : (k v : ℕ) → v < 256 → FineSet Byte (one k v)
-one_fine k v h j w e = go (eqb j k) e
-  where
-    go : (b : Bool) → cond b (is v) absent ≡ is w → w < 256
-    go true e = let q : v ≡ w = cc in omega arith
-    go false e = let z : ◌≡◌ {A = ℕ} 0 1 = cc in absurd (omega arith)
+one_fine k v h j w e = grind (rules, arith)
 
 empty_fine : FineSet Byte empty
-empty_fine k v e = let z : ◌≡◌ {A = ℕ} 0 1 = cc in absurd (omega arith)
+empty_fine k v e = cc
 
 bold_fine : FineSet Byte (one 0 1)
 bold_fine = one_fine 0 1 (omega arith)
@@ -87,34 +83,13 @@ bold_fine = one_fine 0 1 (omega arith)
 plain_fine : FineSet Byte (one 0 0)
 plain_fine = one_fine 0 0 (omega arith)
 
-ready_both : (a b : List Piece) → AllReady a → AllReady b → AllReady (a ++ b)
-ready_both [] b f g = g
-ready_both (p ∷ a) b f g = (f.0, ready_both a b f.1 g)
-
--- B1, the start, B2, B3, B4
-first_ready : AllReady (take 6 starred)
-unfolding keys
-first_ready = ((refl, tt), ((refl, (tt, tt)), ((refl, (bold_fine, tt)), ((refl, (bold_fine, (tt, tt))), ((refl, (bold_fine, (tt, tt))), ((refl, (bold_fine, (empty_fine, tt))), tt))))))
-
--- B5 to B9
-next_ready : AllReady (take 7 (drop 6 starred))
-unfolding keys
-next_ready = ((refl, (bold_fine, (tt, tt))), ((refl, (bold_fine, (plain_fine, (tt, tt)))), ((refl, (bold_fine, tt)), ((refl, (bold_fine, (bold_fine, tt))), ((refl, (bold_fine, tt)), ((refl, (tt, tt)), ((refl, (tt, tt)), tt)))))))
-
--- B10, B11, B13, B14
-last_ready : AllReady (drop 13 starred)
-unfolding keys
-last_ready = ((refl, (bold_fine, (tt, tt))), ((refl, (bold_fine, (tt, tt))), ((refl, (bold_fine, ((empty_fine, tt), tt))), ((refl, (tt, (bold_fine, tt))), ((refl, (tt, (tt, (tt, tt)))), tt)))))
-
 starred_ready : AllReady starred
-starred_ready = ready_both (take 6 starred) (drop 6 starred) first_ready (ready_both (take 7 (drop 6 starred)) (drop 13 starred) next_ready last_ready)
+unfolding keys
+starred_ready = search (rules, bold_fine, plain_fine, empty_fine)
 
 front : (f : Piece → Piece) (a b : List Piece) → map f (a ++ b) ≡ a ++ b → map f a ≡ a
 front f [] b e = refl
-front f (p ∷ a) b e =
-    let h : f p ≡ p = cc in
-    let t : map f (a ++ b) ≡ a ++ b = cc in
-    ap₂ (λ (x : Piece) (xs : List Piece). x ∷ xs) h (front f a b t)
+front f (p ∷ a) b e = grind (rules, front f a b)
 
 starred-played : map played starred ≡ starred
 starred-played =

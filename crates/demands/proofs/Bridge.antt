@@ -4,8 +4,11 @@ use native.Mathlib.Omega.{arith}
 use mathlib.Core.Path.{◌≡◌, refl, sym, ap, ap₂, ◌∙◌}
 use mathlib.Core.Bool.{Bool, true, false, cond}
 use mathlib.Core.List.{List, [], ◌∷◌, map}
-use lib.Dec.{eqb}
-use borrow.Author.Tests.{eqb-true, eqb-false}
+use Rattle.std.proofs.Common.{rules, inl, inr}
+use Rattle.std.proofs.lemmas.Bool.{cases_eq}
+use Rattle.std.specs.Prelude.{Result}
+use Rattle.std.specs.Result.{result_unwrap_or}
+use Rattle.refusal.specs.declared.Refusal.{Refusal}
 use Rattle.rules.specs.Reading.{Op}
 use Rattle.rules.specs.Calls.{Body, Call, apply_delta, begin_now, call}
 use Rattle.rules.specs.Rulings.{FineCall}
@@ -13,9 +16,7 @@ use Rattle.rules.specs.PieceParts.{after as ruled_after, refusals}
 use Rattle.laws.proofs.Calls.{call-refused}
 use Rattle.laws.proofs.Transaction.{FineCalls}
 use Rattle.layout.specs.declared.head.Head.{Head}
-use Rattle.items.specs.declared.Answer.{Answer}
-use Rattle.items.specs.Calls.{answer_of}
-use Rattle.layout.specs.Memory.{sound_of, Carried, kept_all, carry}
+use Rattle.layout.specs.Memory.{sound_of, Carried, leaving, kept_all, carry}
 use Rattle.layout.proofs.Soundness.{sound-parts}
 use Rattle.layout.proofs.Models.{model-sound, sound-units}
 use Rattle.items.proofs.Carries.{carry-broken, carry-refused, carry-done}
@@ -25,27 +26,21 @@ use Rattle.demands.specs.Steps.{State, sound, model, Step, does, turned, answere
 -- ---- one step
 -- One call, refused or not.
 pub call-model : (c : Call) → FineCall c → (s : State) → sound s ≡ true → model (left (answered (does c) s)) ≡ (call c (model s)).sheet
-call-model c fine s ok = go (eqb (call c (model s)).refusal 0) refl
-  where
-    go : (b : Bool) → eqb (call c (model s)).refusal 0 ≡ b → model (left (answered (does c) s)) ≡ (call c (model s)).sheet
-    go true e = leaves-model c s.head s.words s.units ok fine (refusal_is c s.head s.words s.units ok ∙ eqb-true (call c (model s)).refusal 0 e)
-    go false e =
-        let some = eqb-false (call c (model s)).refusal 0 e in
-        ap (λ (x : Carried). model (left x)) (carry-refused (call c) s.head s.words s.units ok some)
-        ∙ sym (call-refused c (model s) (model-sound s.head s.words s.units (sound-parts s.head s.words s.units ok)).within (call c (model s)).refusal refl (omega arith))
+call-model c fine s ok =
+    elim (cases_eq (call c (model s)).refusal 0) [
+      | inl none ↦ leaves-model c s.head s.words s.units ok fine (refusal_is c s.head s.words s.units ok ∙ none)
+      | inr some ↦ ap (λ (x : Carried). model (left x)) (carry-refused (call c) s.head s.words s.units ok some)
+          ∙ sym (call-refused c (model s) (model-sound s.head s.words s.units (sound-parts s.head s.words s.units ok)).within (call c (model s)).refusal refl (omega arith))
+    ]
 
 -- A step that is turned away keeps all.
 pub turned-keeps : (n : ℕ) (s : State) → left (answered (turned n) s) ≡ s
-turned-keeps n s = go (sound s)
-  where
-    go : (b : Bool) → left (cond b (kept_all n s.head s.words s.units) (kept_all 9 s.head s.words s.units)) ≡ s
-    go true = refl
-    go false = refl
+turned-keeps n s = grind rules
 
 -- What `begin` promises of its answer and of the words, with the units that it does not touch, is `begun`.
-pub begin-is : (s : State) (r : Answer) (m : List ℕ) → r ≡ answer_of (carry begin_now s.head s.words s.units) → m ≡ (carry begin_now s.head s.words s.units).words
-    → record { head = r.head; words = m; units = s.units } ≡ begun s
-begin-is s r m a w = ap₂ (λ (x : Answer) (y : List ℕ). record { head = x.head; words = y; units = s.units }) a w ∙ ap (λ (x : List ℕ). record { head = (begun s).head; words = (begun s).words; units = x }) (go (sound s) refl)
+pub begin-is : (s : State) (r : Result Head Refusal) (m u : List ℕ) → leaving s.head r m u ≡ carry begin_now s.head s.words s.units
+    → record { head = result_unwrap_or r s.head; words = m; units = s.units } ≡ begun s
+begin-is s r m u e = ap₂ (λ (x : Carried) (y : List ℕ). record { head = x.head; words = x.words; units = y }) e (go (sound s) refl)
   where
     go : (b : Bool) → sound s ≡ b → s.units ≡ (begun s).units
     go true e =
@@ -55,8 +50,7 @@ begin-is s r m a w = ap₂ (λ (x : Answer) (y : List ℕ). record { head = x.he
 
 -- An unsound sheet is refused with 9, and all is kept.
 pub broken-step : (t : Step) (s : State) → sound s ≡ false → answered t s ≡ kept_all 9 s.head s.words s.units
-broken-step (does c) s e = carry-broken (call c) s.head s.words s.units e
-broken-step (turned n) s e = rw e
+broken-step t s e = grind (rules, carry-broken)
 
 -- A delta in memory is a step.
 pub delta-step : (many short : Bool) (ops : List (Op Body)) (h : Head) (m u : List ℕ)
@@ -67,10 +61,7 @@ delta-step many short ops h m u = go (sound_of h m u) refl many short
     go : (b : Bool) → sound_of h m u ≡ b → (many short : Bool)
         → cond b (cond many (kept_all 7 h m u) (cond short (kept_all 8 h m u) (carry (apply_delta ops) h m u))) (kept_all 9 h m u)
         ≡ answered (delta_step many short ops) (record { head = h; words = m; units = u })
-    go true e true true = rw e
-    go true e true false = rw e
-    go true e false true = rw e
-    go true e false false = refl
+    go true e many short = grind rules
     go false e many short = sym (broken-step (delta_step many short ops) (record { head = h; words = m; units = u }) e)
 
 -- ---- any steps
@@ -90,6 +81,4 @@ after-model (turned n ∷ ts) d s ok = ap (λ (x : State). model (after ts x)) (
 -- So are the numbers that calls answer.
 pub numbers-ruled : (cs : List Call) → FineCalls cs → (s : State) → sound s ≡ true → numbers (map does cs) s ≡ refusals cs (model s)
 numbers-ruled [] d s ok = refl
-numbers-ruled (c ∷ cs) d s ok =
-    ap₂ (λ (n : ℕ) (ns : List ℕ). n ∷ ns) (refusal_is c s.head s.words s.units ok)
-    (numbers-ruled cs d.1 (left (answered (does c) s)) (leaves-sound c s.head s.words s.units ok d.0) ∙ ap (refusals cs) (call-model c d.0 s ok))
+numbers-ruled (c ∷ cs) d s ok = grind (rules, refusal_is, numbers-ruled cs, leaves-sound, call-model)

@@ -1,24 +1,26 @@
 -- The runs that a sheet in memory hands out show what is seen, and joined ones cannot be joined further. Assumes nothing.
 use Prim.Native.Nat.{ℕ, suc, ◌+◌, ◌<◌}
+use Rattle.std.proofs.Common.{rules}
 use native.Mathlib.Omega.{arith}
 use mathlib.Core.Path.{◌≡◌, refl, sym, ap, ap₂, subst, ◌∙◌}
-use mathlib.Core.Bool.{Bool, true, false, cond, not, true≢false}
+use mathlib.Core.Bool.{Bool, true}
 use mathlib.Core.List.{List, [], ◌∷◌, ◌++◌, map, append_assoc}
 use lib.ListN.{length, take, drop, length-append, length-map, drop_of_length-le}
 use lib.Seq.{take-append_seam, drop_at}
-use Rattle.sets.specs.Sets.{Slot, Set, is_absent, keys, those, present, as_set}
+use Rattle.std.proofs.lemmas.Bool.{not-false}
+use Rattle.sets.specs.Sets.{Set, keys, present}
 use Rattle.attrs.specs.Packed.{says, packed}
-use Rattle.attrs.proofs.Force.{says_in, env_in}
+use Rattle.attrs.proofs.Says.{says-packed}
+use Rattle.attrs.proofs.Force.{env_in}
 use Rattle.rules.specs.Sheet.{Item}
 use Rattle.rules.specs.Reading.{live, Glyph, Cell, paint, cells, seen_glyphs}
 use Rattle.rules.specs.Runs.{Chunk, words, object, Run as Stretch, runs, is_text, glyphs_of, joined}
-use Rattle.laws.proofs.Lists.{In, here, there, map-append}
+use Rattle.laws.proofs.Lists.{map-append}
 use Rattle.laws.proofs.Cuts.{glyphs_in, in_cells, in-paint}
 use Rattle.laws.proofs.Runs.{run_cells, runs-cells, joined-cells, Maximal, none_left, one_left, apart, joined_maximal, apart_differ}
 use Rattle.cursors.specs.declared.run.Run.{Run}
-use Rattle.runs.specs.declared.calls.Count.{Count}
 use Rattle.cursors.specs.Records.{len_of, record_of, records_of, runs_by}
-use Rattle.runs.specs.Answers.{records_in, answer, counted, Said, first, run_at}
+use Rattle.runs.specs.Answers.{Count, records_in, answer, counted, Said, first, run_at}
 use Rattle.demands.specs.Steps.{State, sound, model}
 use Rattle.demands.specs.Written.{spelled, spelled_cell}
 use Rattle.demands.specs.Listing.{runs_read, all_runs, run_glyphs, runs_show, visible_of, Apart, Counted, Listed}
@@ -57,11 +59,10 @@ all_glyphs (r ∷ rs) = glyphs_of r.chunk ++ all_glyphs rs
 
 cells-glyphs : (j : ℕ) (rs : List Stretch) → glyphs_in (run_cells j rs) ≡ all_glyphs rs
 cells-glyphs j [] = refl
-cells-glyphs j (r ∷ rs) = in-paint (r.force j) (glyphs_of r.chunk) (run_cells j rs) ∙ ap (λ (x : List Glyph). glyphs_of r.chunk ++ x) (cells-glyphs j rs)
+cells-glyphs j (r ∷ rs) = grind (rules, in-paint, cells-glyphs j rs)
 
 len-glyphs : (c : Chunk) → length (glyphs_of c) ≡ len_of c
-len-glyphs (words gs) = refl
-len-glyphs (object x) = refl
+len-glyphs c = grind rules
 
 module _ (u : List ℕ) where
   -- Each record stands for the units of its run.
@@ -100,8 +101,7 @@ module _ (u : List ℕ) where
 -- plain or joined, the cells are the list's
 by-cells : (b : Bool) (j : ℕ) → j < 16 → (l : List Item) → run_cells j (runs_by b (runs l)) ≡ cells live j 0 l
 unfolding runs_by
-by-cells false j h l = runs-cells j l
-by-cells true j h l = joined-cells j (key_in_lem j h) (runs l) ∙ runs-cells j l
+by-cells b j h l = grind (rules, runs-cells, joined-cells, key_in_lem)
 
 pub by-glyphs : (b : Bool) (l : List Item) → all_glyphs (runs_by b (runs l)) ≡ seen_glyphs l
 by-glyphs b l = sym (cells-glyphs 0 (runs_by b (runs l))) ∙ ap glyphs_in (by-cells b 0 (omega arith) l) ∙ in_cells 0 0 l
@@ -111,29 +111,22 @@ pub runs_stand : (u : List ℕ) (b : Bool) (l : List Item) → Stand u (map (spe
 runs_stand u b l = subst (λ (x : List Glyph). Stand u (map (spelled u) x) 0 (runs_by b (runs l))) (by-glyphs b l) (all-stand u (runs_by b (runs l)) [] 0 refl)
 
 -- ---- keys counted, and neighbours apart
-those-same : (p q : ℕ → Bool) (ks : List ℕ) → ((k : ℕ) → In k ks → p k ≡ q k) → those p ks ≡ those q ks
-those-same p q [] h = refl
-those-same p q (k ∷ ks) h = ap₂ (λ (b : Bool) (xs : List ℕ). cond b (k ∷ xs) xs) (h k (here refl)) (those-same p q ks (λ j i. h j (there i)))
-
 -- a packed set has the keys that it was packed from
 present_in : (a : Set) → present keys (says (packed a)) ≡ present keys a
-present_in a = those-same (λ k. not (is_absent (says (packed a) k))) (λ k. not (is_absent (a k))) keys (λ k i. ap (λ (x : Slot). not (is_absent x)) (says_in a k (key_below k i)))
+unfolding keys
+present_in a = ap (present keys) (says-packed a)
 
 records-counted : (n : ℕ) (rs : List Stretch) → Counted (records_of n rs)
 unfolding records_of
 records-counted n [] = tt
-records-counted n (r ∷ rs) = (ap length (sym (present_in (as_set r.force))), records-counted (n + len_of r.chunk) rs)
-
-is-text : (b : Bool) → not b ≡ false → b ≡ true
-is-text true e = refl
-is-text false e = sym e
+records-counted n (r ∷ rs) = grind (rules, present_in, records-counted (n + len_of r.chunk) rs)
 
 records-apart : (n : ℕ) {rs : List Stretch} → Maximal rs → Apart (records_of n rs)
 unfolding records_of
 records-apart n none_left = tt
 records-apart n one_left = tt
 records-apart n (apart {r = r} {s = s} q m) = (
-  λ e f. let d = apart_differ r s q (is-text (is_text r.chunk) e) (is-text (is_text s.chunk) f) in
+  λ e f. let d = apart_differ r s q (not-false (is_text r.chunk) e) (not-false (is_text s.chunk) f) in
       let l = key_below d.0 d.1 in
       (d.0, l, λ z. d.2 (sym (env_in r.force d.0 l) ∙ z ∙ env_in s.force d.0 l)),
   records-apart (n + len_of r.chunk) m,
@@ -141,8 +134,7 @@ records-apart n (apart {r = r} {s = s} q m) = (
 
 by_apart : (b : Bool) → b ≡ true → (rs : List Stretch) → Maximal (joined rs) → Apart (records_of 0 (runs_by b rs))
 unfolding runs_by
-by_apart true e r m = records-apart 0 m
-by_apart false e r m = absurd (true≢false (sym e))
+by_apart b e r m = grind (rules, records-apart)
 
 -- The runs of a sound sheet in memory.
 pub runs_listed : (s : State) → sound s ≡ true → (b : Bool) → Listed s b

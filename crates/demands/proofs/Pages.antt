@@ -2,16 +2,17 @@
 use Prim.Native.Nat.{ℕ, zero, suc, ◌+◌, ◌≤◌, ◌<◌}
 use native.Mathlib.Omega.{arith}
 use mathlib.Core.Path.{◌≡◌, refl, sym, ap, ap₂, ◌∙◌}
-use mathlib.Core.Bool.{Bool, true, false, cond}
-use mathlib.Core.List.{List, [], ◌∷◌, ◌++◌, map, append-nil, append_assoc}
-use lib.Dec.{eqb}
+use mathlib.Core.Bool.{true}
+use mathlib.Core.List.{List, [], ◌∷◌, ◌++◌, map, map-map, append-nil, append_assoc}
 use lib.ListN.{length, get_or, take, drop, length-append, get_or-append}
 use lib.Seq.{get_or-take}
-use borrow.Author.Tests.{eqb-true, eqb-false}
+use Rattle.std.proofs.Common.{rules, inl, inr}
+use Rattle.std.proofs.lemmas.Bool.{cases_eq}
+use Rattle.std.proofs.lemmas.List.{take-map, drop-map}
 use Rattle.sets.specs.Sets.{Slot, lay, keys}
-use Rattle.rules.specs.Sheet.{What, text, embed, mark, Item}
+use Rattle.rules.specs.Sheet.{What, Item}
 use Rattle.rules.specs.Sound.{Fits, AllFit}
-use Rattle.rules.specs.Reading.{Seen, pass_key, Glyph, unit, units_of, glyphs, Cell, paint, shown, cells, lay_cell, insert, delete, retain, read}
+use Rattle.rules.specs.Reading.{Seen, pass_key, Glyph, units_of, glyphs, Cell, paint, shown, cells, lay_cell, insert, delete, retain, read}
 use Rattle.rules.specs.Calls.{Sheet, Call, call}
 use Rattle.rules.specs.Rulings.{SoundSheet, brought}
 use Rattle.rules.specs.PieceParts.{after as ruled_after}
@@ -32,11 +33,7 @@ keys_from k (suc n) = k ∷ keys_from (suc k) n
 
 key_from : (n k j : ℕ) → k ≤ j → j < k + n → In j (keys_from k n)
 key_from zero k j l h = absurd (omega arith)
-key_from (suc n) k j l h = go (eqb j k) refl (λ m. key_from n (suc k) j m (omega arith))
-  where
-    go : (b : Bool) → eqb j k ≡ b → (suc k ≤ j → In j (keys_from (suc k) n)) → In j (k ∷ keys_from (suc k) n)
-    go true e on = here (eqb-true j k e)
-    go false e on = let q = eqb-false j k e in there (on (omega arith))
+key_from (suc n) k j l h = elim (cases_eq j k) [ inl e ↦ here e | inr e ↦ there (key_from n (suc k) j (omega arith) (omega arith)) ]
 
 from-below : (n k j : ℕ) → In j (keys_from k n) → j < k + n
 from-below zero k j i = elim i [ ]
@@ -56,58 +53,37 @@ key_below j i = from-below 16 0 j i
 module _ (u : List ℕ) where
   pub paint-spelled : (v : ℕ) (gs : List Glyph) → paint v (map (spelled u) gs) ≡ map (spelled_cell u) (paint v gs)
   paint-spelled v [] = refl
-  paint-spelled v (g ∷ gs) = ap (λ (x : List Cell). record { glyph = spelled u g; value = v } ∷ x) (paint-spelled v gs)
-
-  take-spelled : (n : ℕ) (cs : List Cell) → take n (map (spelled_cell u) cs) ≡ map (spelled_cell u) (take n cs)
-  take-spelled zero cs = refl
-  take-spelled (suc n) [] = refl
-  take-spelled (suc n) (c ∷ cs) = ap (λ (x : List Cell). spelled_cell u c ∷ x) (take-spelled n cs)
-
-  drop-spelled : (n : ℕ) (cs : List Cell) → drop n (map (spelled_cell u) cs) ≡ map (spelled_cell u) (drop n cs)
-  drop-spelled zero cs = refl
-  drop-spelled (suc n) [] = refl
-  drop-spelled (suc n) (c ∷ cs) = drop-spelled n cs
+  paint-spelled v (g ∷ gs) = grind (rules, paint-spelled v gs)
 
   lay-spelled : (s : Slot) (cs : List Cell) → map (lay_cell s) (map (spelled_cell u) cs) ≡ map (spelled_cell u) (map (lay_cell s) cs)
-  lay-spelled s [] = refl
-  lay-spelled s (c ∷ cs) = ap (λ (x : List Cell). spelled_cell u (lay_cell s c) ∷ x) (lay-spelled s cs)
+  lay-spelled s cs = map-map (lay_cell s) (spelled_cell u) cs ∙ sym (map-map (spelled_cell u) (lay_cell s) cs)
 
   pub read-spelled : (j : ℕ) (ops : Ops) (cs : List Cell) → read j (map (spelled_op u) ops) (map (spelled_cell u) cs) ≡ map (spelled_cell u) (read j ops cs)
   read-spelled j [] cs = refl
   read-spelled j (insert gs a ∷ ops) cs =
       ap₂ (λ (x y : List Cell). x ++ y) (paint-spelled (lay (a j) 0) gs) (read-spelled j ops cs) ∙ sym (map-append (spelled_cell u) (paint (lay (a j) 0) gs) (read j ops cs))
-  read-spelled j (delete n ∷ ops) cs = ap (read j (map (spelled_op u) ops)) (drop-spelled n cs) ∙ read-spelled j ops (drop n cs)
+  read-spelled j (delete n ∷ ops) cs = ap (read j (map (spelled_op u) ops)) (drop-map (spelled_cell u) n cs) ∙ read-spelled j ops (drop n cs)
   read-spelled j (retain n a ∷ ops) cs =
       ap₂ (λ (x y : List Cell). x ++ y)
-      (ap (map (lay_cell (a j))) (take-spelled n cs) ∙ lay-spelled (a j) (take n cs))
-      (ap (read j (map (spelled_op u) ops)) (drop-spelled n cs) ∙ read-spelled j ops (drop n cs))
+      (ap (map (lay_cell (a j))) (take-map (spelled_cell u) n cs) ∙ lay-spelled (a j) (take n cs))
+      (ap (read j (map (spelled_op u) ops)) (drop-map (spelled_cell u) n cs) ∙ read-spelled j ops (drop n cs))
       ∙ sym (map-append (spelled_cell u) (map (lay_cell (a j)) (take n cs)) (read j ops (drop n cs)))
 
 -- ---- the same units, the same page
 module _ (a b : List ℕ) (used : ℕ) (alike : (p : ℕ) → p < used → get_or a p 0 ≡ get_or b p 0) where
   units-alike : (v s n : ℕ) → s + n ≤ used → map (spelled_cell a) (paint v (units_of s n)) ≡ map (spelled_cell b) (paint v (units_of s n))
   units-alike v s zero h = refl
-  units-alike v s (suc n) h =
-      ap₂ (λ (x : ℕ) (y : List Cell). record { glyph = unit x; value = v } ∷ y) (alike s (omega arith)) (units-alike v (suc s) n (omega arith))
+  units-alike v s (suc n) h = grind (rules, arith, alike, units-alike v (suc s) n)
 
   what-alike : (v : ℕ) (w : What) → Fits used w → map (spelled_cell a) (paint v (glyphs w)) ≡ map (spelled_cell b) (paint v (glyphs w))
-  what-alike v (text s n) f = units-alike v s n f.1
-  what-alike v (embed e) f = refl
-  what-alike v (mark k x) f = refl
+  what-alike v w f = grind (rules, units-alike)
 
   item-alike : (seen : Seen) (i : Item) (v : ℕ) → Fits used i.what → map (spelled_cell a) (shown seen i v) ≡ map (spelled_cell b) (shown seen i v)
-  item-alike seen i v f = go (seen i.flags)
-    where
-      go : (t : Bool) → map (spelled_cell a) (cond t (paint v (glyphs i.what)) []) ≡ map (spelled_cell b) (cond t (paint v (glyphs i.what)) [])
-      go true = what-alike v i.what f
-      go false = refl
+  item-alike seen i v f = grind (rules, what-alike)
 
   pub cells-alike : (seen : Seen) (j v : ℕ) (l : List Item) → AllFit used l → map (spelled_cell a) (cells seen j v l) ≡ map (spelled_cell b) (cells seen j v l)
   cells-alike seen j v [] f = refl
-  cells-alike seen j v (i ∷ l) f =
-      map-append (spelled_cell a) (shown seen i v) (cells seen j (pass_key seen j i v) l)
-      ∙ ap₂ (λ (x y : List Cell). x ++ y) (item-alike seen i v f.1) (cells-alike seen j (pass_key seen j i v) l f.2)
-      ∙ sym (map-append (spelled_cell b) (shown seen i v) (cells seen j (pass_key seen j i v) l))
+  cells-alike seen j v (i ∷ l) f = grind (rules, map-append, item-alike, cells-alike seen j (pass_key seen j i v) l)
 
 -- ---- units in use stay
 record Longer (a b : List ℕ) : Type 0 where

@@ -1,8 +1,9 @@
 -- Whatever the public calls are handed, in their types, is a step that the theorems take. Assumes nothing.
 use Prim.Native.Nat.{ℕ}
-use mathlib.Core.Bool.{Bool, true, false}
+use Rattle.std.proofs.Common.{rules}
+use mathlib.Core.Bool.{true}
 use mathlib.Core.List.{List, [], ◌∷◌, map}
-use lib.ListN.{length, take}
+use lib.ListN.{length}
 use mathlib.Core.Path.{◌≡◌}
 use Rattle.sets.specs.Sets.{Set}
 use Rattle.attrs.specs.Packed.{says}
@@ -10,9 +11,7 @@ use Rattle.rules.specs.Reading as rules
 use Rattle.rules.specs.Calls.{Body}
 use Rattle.rules.specs.Rulings.{Byte, FineSet, FineOps, FineCall, Edit}
 use Rattle.laws.proofs.Transaction.{Edits}
-use Rattle.ops.specs.declared.delta.Inserted.TheVariants.{Text, Embed}
 use Rattle.ops.specs.declared.delta.Op.{Op}
-use Rattle.ops.specs.declared.delta.Op.TheVariants.{Insert, Delete, Retain}
 use Rattle.ops.specs.declared.delta.DeltaOp.{DeltaOp}
 use Rattle.ops.specs.declared.delta.Delta.{Delta}
 use Rattle.ops.specs.Ops.{op_for, op_of, ops_of}
@@ -20,17 +19,14 @@ use Rattle.layout.specs.declared.head.Head.{Head}
 use Rattle.sheet.proofs.Theorems.{says_fine}
 use Rattle.deltas.specs.Checks.{many_of}
 use Rattle.deltas.specs.Call.{short_scratch, carry_delta}
-use Rattle.demands.specs.Steps.{State, sound, Step, does, turned, answered, after, begun, calls_of, delta_step}
+use Rattle.demands.specs.Steps.{State, sound, Step, does, turned, answered, after, begun, calls_of}
 use Rattle.demands.specs.Requests.{Request, insert, insert_with_attributes, embed, embed_with_attributes, format, remove, delta, step_of, TypedOp, TypedOps, Typed, AllTyped}
 use Rattle.demands.specs.Demands.{Replays}
 use Rattle.demands.proofs.Bridge.{delta-step}
 use Rattle.demands.proofs.Transaction.{begin-to-event}
 
 op_fine : (us : List ℕ) (a : Set) (o : Op) → TypedOp o → FineSet Byte a → (rest : List (rules.Op Body)) → FineOps rest → FineOps (op_for us a o ∷ rest)
-op_fine us a (Insert (Text s n)) t f rest g = (tt, f, g)
-op_fine us a (Insert (Embed e)) t f rest g = (t, f, g)
-op_fine us a (Delete n) t f rest g = g
-op_fine us a (Retain n) t f rest g = (f, g)
+op_fine us a o t f rest g = grind rules
 
 ops_fine : (us : List ℕ) (ds : List DeltaOp) → TypedOps ds → FineOps (map (op_of us) ds)
 unfolding op_of
@@ -50,16 +46,10 @@ request_fine (embed i e) t = (tt, t)
 request_fine (embed_with_attributes i e a) t = (tt, (t.0, says_fine a t.1))
 request_fine (format i n a) t = (tt, says_fine a t)
 request_fine (remove i n) t = (tt, tt)
-request_fine (delta sm su us d) t = go (many_of (length us) d) (short_scratch sm su)
-  where
-    go : (many short : Bool) → FineEdit (delta_step many short (ops_of us d))
-    go true short = tt
-    go false true = tt
-    go false false = (tt, ops_fine us (take d.count d.ops) t)
+request_fine (delta sm su us d) t = grind (rules, ops_fine)
 
 edits-on : (t : Step) (ts : List Step) → FineEdit t → Edits (calls_of ts) → Edits (calls_of (t ∷ ts))
-edits-on (does c) ts f d = (f.0, f.1, d)
-edits-on (turned n) ts f d = d
+edits-on t ts f d = grind rules
 
 pub requests-edit : (rs : List Request) → AllTyped rs → Edits (calls_of (map step_of rs))
 requests-edit [] t = tt

@@ -1,16 +1,16 @@
 -- What the calls answer of a sound sheet in memory is what the rules say of its model, in the words of the bench pieces. Assumes nothing.
 use Prim.Native.Nat.{ℕ, zero, suc, ◌+◌, ◌≤◌, ◌<◌}
+use Rattle.std.proofs.Common.{rules}
 use native.Mathlib.Omega.{arith}
 use mathlib.Core.Path.{◌≡◌, refl, sym, ap, ap₂, subst, subst⁻¹, ◌∙◌}
-use mathlib.Core.Bool.{Bool, true, false, cond, not, ◌&&◌}
+use mathlib.Core.Bool.{Bool, true, false, not, ◌&&◌}
 use mathlib.Core.List.{List, [], ◌∷◌, ◌++◌, map}
-use lib.Dec.{eqb}
 use lib.ListN.{length, take}
 use lib.Seq.{get_or-take}
-use Rattle.sets.specs.Sets.{absent, is, Set, Env, is_absent, keys, present, as_set}
+use Rattle.sets.specs.Sets.{Set, Env, keys, present, as_set}
 use Rattle.attrs.specs.Packed.{says, packed}
-use Rattle.attrs.proofs.Force.{says_in}
-use Rattle.rules.specs.Sheet.{What, text, embed, mark, Item}
+use Rattle.attrs.proofs.Says.{says-packed}
+use Rattle.rules.specs.Sheet.{What, Item}
 use Rattle.rules.specs.Sound.{Fits, AllFit}
 use Rattle.rules.specs.Reading.{Seen, before, live, Glyph, unit, thing, units_of, glyphs, visible, insert, delete, retain}
 use Rattle.rules.specs.Event.{event, script}
@@ -20,7 +20,6 @@ use Rattle.rules.specs.Runs as rules
 use Rattle.rules.specs.Calls.{unit_at}
 use Rattle.rules.specs.PieceParts.{Attrs, pair_for, pairs, valued, Said, t, x, r, d, Says, holds, shows, leaves, long, plain, merged, tells, carries, counts, item, range, replays, answer}
 use Rattle.rules.specs.PieceParts as parts
-use Rattle.laws.proofs.Lists.{In, here, there}
 use Rattle.laws.proofs.Cuts.{seen-live}
 use Rattle.laws.proofs.Told.{given-giving, given-keeps, given_drops, event-tells}
 use Rattle.items.specs.Calls.{length_of}
@@ -33,7 +32,6 @@ use Rattle.demands.specs.Written.{spelled, spelled_op}
 use Rattle.demands.specs.Demands.{read_event}
 use Rattle.demands.specs.Listing.{all_runs, run_glyphs, visible_of}
 use Rattle.demands.specs.Bench.{letter, said_run, said_glyphs, said_op, answer_by}
-use Rattle.demands.proofs.Pages.{key_below}
 use Rattle.demands.proofs.Transaction.{wrote-room, wrote-back}
 use Rattle.demands.proofs.Listing.{all_read, all_glyphs, Stand, by-glyphs, runs_stand}
 
@@ -46,65 +44,44 @@ Below n (thing e ∷ gs) = Below n gs
 module _ (n : ℕ) where
   below_left : (a b : List Glyph) → Below n (a ++ b) → Below n a
   below_left [] b f = tt
-  below_left (unit p ∷ a) b f = (f.0, below_left a b f.1)
-  below_left (thing e ∷ a) b f = below_left a b f
+  below_left (g ∷ a) b f = grind (rules, below_left a b)
 
   below_right : (a b : List Glyph) → Below n (a ++ b) → Below n b
   below_right [] b f = f
-  below_right (unit p ∷ a) b f = below_right a b f.1
-  below_right (thing e ∷ a) b f = below_right a b f
+  below_right (g ∷ a) b f = grind (rules, below_right a b)
 
   below_both : (a b : List Glyph) → Below n a → Below n b → Below n (a ++ b)
   below_both [] b f g = g
-  below_both (unit p ∷ a) b f g = (f.0, below_both a b f.1 g)
-  below_both (thing e ∷ a) b f g = below_both a b f g
+  below_both (h ∷ a) b f g = grind (rules, below_both a b)
 
   below-units : (s k : ℕ) → s + k ≤ n → Below n (units_of s k)
   below-units s zero h = tt
-  below-units s (suc k) h = (omega arith, below-units (suc s) k (omega arith))
+  below-units s (suc k) h = grind (rules, arith, below-units (suc s) k)
 
   below-what : (w : What) → Fits n w → Below n (glyphs w)
-  below-what (text s k) f = below-units s k f.1
-  below-what (embed e) f = tt
-  below-what (mark k v) f = tt
+  below-what w f = grind (rules, below-units)
 
   below-seen : (see : Seen) (l : List Item) → AllFit n l → Below n (seen_by see l)
   below-seen see [] f = tt
-  below-seen see (i ∷ l) f = below_both (cond (see i.flags) (glyphs i.what) []) (seen_by see l) (go (see i.flags)) (below-seen see l f.2)
-    where
-      go : (b : Bool) → Below n (cond b (glyphs i.what) [])
-      go true = below-what i.what f.1
-      go false = tt
+  below-seen see (i ∷ l) f = grind (rules, below_both, below-what, below-seen see l)
 
   -- read where they lie, or in the used part
   letters : (u : List ℕ) (gs : List Glyph) → Below n gs → map letter (map (spelled u) gs) ≡ map (unit_at (take n u)) gs
   letters u [] f = refl
-  letters u (unit p ∷ gs) f = ap₂ (λ (y : ℕ) (ys : List ℕ). y ∷ ys) (sym (get_or-take n u p 0 f.0)) (letters u gs f.1)
-  letters u (thing e ∷ gs) f = ap (λ (ys : List ℕ). 0 ∷ ys) (letters u gs f)
+  letters u (g ∷ gs) f = grind (rules, letters u gs, get_or-take)
 
 -- ---- attributes
-pairs-same : (a b : Set) (ks : List ℕ) → ((k : ℕ) → In k ks → a k ≡ b k) → pairs ks a ≡ pairs ks b
-pairs-same a b [] h = refl
-pairs-same a b (k ∷ ks) h = ap₂ (pair_for k) (h k (here refl)) (pairs-same a b ks (λ j i. h j (there i)))
-
 pairs-packed : (a : Set) → pairs keys (says (packed a)) ≡ pairs keys a
-pairs-packed a = pairs-same (says (packed a)) a keys (λ k i. says_in a k (key_below k i))
+unfolding keys
+pairs-packed a = ap (pairs keys) (says-packed a)
 
 pairs-valued : (ks : List ℕ) (e : Env) → pairs ks (as_set e) ≡ valued e (keys_of ks e)
 pairs-valued [] e = refl
-pairs-valued (k ∷ ks) e = go (eqb (e k) 0) (pairs-valued ks e)
-  where
-    go : (b : Bool) → pairs ks (as_set e) ≡ valued e (keys_of ks e) → pair_for k (cond b absent (is (e k))) (pairs ks (as_set e)) ≡ valued e (cond b (keys_of ks e) (k ∷ keys_of ks e))
-    go true h = h
-    go false h = ap (λ (y : Attrs). (k, e k) ∷ y) h
+pairs-valued (k ∷ ks) e = grind (rules, pairs-valued ks e)
 
 keys-present : (ks : List ℕ) (e : Env) → present ks (as_set e) ≡ keys_of ks e
 keys-present [] e = refl
-keys-present (k ∷ ks) e = go (eqb (e k) 0) (keys-present ks e)
-  where
-    go : (b : Bool) → present ks (as_set e) ≡ keys_of ks e → cond (not (is_absent (cond b absent (is (e k))))) (k ∷ present ks (as_set e)) (present ks (as_set e)) ≡ cond b (keys_of ks e) (k ∷ keys_of ks e)
-    go true h = h
-    go false h = ap (λ (y : List ℕ). k ∷ y) h
+keys-present (k ∷ ks) e = grind (rules, keys-present ks e)
 
 -- ---- runs
 module _ (u : List ℕ) (used : ℕ) where
@@ -121,14 +98,12 @@ module _ (u : List ℕ) (used : ℕ) where
   runs-said : (vs : List Glyph) (n : ℕ) (rs : List Stretch) → Stand u vs n rs → Below used (all_glyphs rs) → map (said_run vs) (records_of n rs) ≡ map (parts.said_run (take used u)) rs
   unfolding records_of
   runs-said vs n [] h f = refl
-  runs-said vs n (q ∷ rs) h f =
-      ap₂ (λ (y : Said) (ys : List Said). y ∷ ys) (run-said q vs n h.0 (below_left used (glyphs_of q.chunk) (all_glyphs rs) f))
-      (runs-said vs (n + len_of q.chunk) rs h.1 (below_right used (glyphs_of q.chunk) (all_glyphs rs) f))
+  runs-said vs n (q ∷ rs) h f = grind (rules, run-said q vs n, runs-said vs (n + len_of q.chunk) rs, below_left, below_right)
 
 counts-said : (n : ℕ) (rs : List Stretch) → map (λ (q : Run). q.count) (records_of n rs) ≡ map rules.run_count rs
 unfolding records_of
 counts-said n [] = refl
-counts-said n (q ∷ rs) = ap₂ (λ (y : ℕ) (ys : List ℕ). y ∷ ys) (ap length (keys-present keys q.force)) (counts-said (n + len_of q.chunk) rs)
+counts-said n (q ∷ rs) = grind (rules, keys-present, counts-said (n + len_of q.chunk) rs)
 
 -- ---- the event
 glyphs-said : (u : List ℕ) (used : ℕ) (gs : List Glyph) (a : Attrs) → Below used gs → said_glyphs (map (spelled u) gs) a ≡ parts.said_glyphs (take used u) gs a

@@ -1,13 +1,15 @@
 -- Every step, on any head and any buffers: what it answers, and what it leaves. Assumes nothing.
 use native.Mathlib.Omega.{arith}
-use mathlib.Core.Path.{◌≡◌, refl, sym, ap, ◌∙◌}
-use mathlib.Core.Bool.{Bool, true, false, cond}
+use Rattle.std.proofs.Common.{rules}
+use mathlib.Core.Path.{◌≡◌, sym, ap, ◌∙◌}
+use mathlib.Core.Bool.{true}
+use Rattle.std.proofs.lemmas.Bool.{true_from_ne_false}
 use Rattle.rules.specs.Calls.{Sheet, Call, call}
 use Rattle.rules.specs.Reading.{visible}
 use Rattle.rules.specs.Rulings.{Within, ruling, ruled, FineCall}
 use Rattle.laws.proofs.Calls.{call-accepted}
 use Rattle.laws.proofs.Shows.{call_length}
-use Rattle.layout.specs.Memory.{Carried, kept_all, stored_all}
+use Rattle.layout.specs.Memory.{Carried, stored_all}
 use Rattle.layout.proofs.Soundness.{sound-parts}
 use Rattle.layout.proofs.Models.{model-sound}
 use Rattle.items.proofs.Carries.{carry-done}
@@ -23,11 +25,7 @@ module _ (c : Call) (fine : FineCall c) (s : State) where
 
   -- what is accepted was sound
   was-sound : r.refusal ≡ 0 → sound s ≡ true
-  was-sound z = go (sound s) refl
-    where
-      go : (b : Bool) → sound s ≡ b → sound s ≡ true
-      go true e = e
-      go false e = absurd (omega (arith, (broken-exactly c s.head s.words s.units).1 e))
+  was-sound z = true_from_ne_false (sound s) (λ e. omega (arith, (broken-exactly c s.head s.words s.units).1 e))
 
   within : r.refusal ≡ 0 → Within (model s)
   within z = (model-sound s.head s.words s.units (sound-parts s.head s.words s.units (was-sound z))).within
@@ -60,8 +58,4 @@ module _ (c : Call) (fine : FineCall c) (s : State) where
 -- The first and the second demand.
 pub every-step : (t : Step) → FineStep t → (s : State) → Settled t s
 every-step (does c) fine s = called c fine s
-every-step (turned n) fine s = record { number = go (sound s); kept = turned-keeps n s }
-  where
-    go : (b : Bool) → (cond b (kept_all n s.head s.words s.units) (kept_all 9 s.head s.words s.units)).refusal ≡ cond b n 9
-    go true = refl
-    go false = refl
+every-step (turned n) fine s = record { number = grind rules; kept = turned-keeps n s }

@@ -1,5 +1,6 @@
 -- From `begin` to `event`, over the sheet in memory and any steps between, refused ones among them. Assumes nothing.
 use Prim.Native.Nat.{ℕ, ◌≤◌, ◌<◌}
+use Rattle.std.proofs.Common.{rules}
 use native.Mathlib.Omega.{arith}
 use mathlib.Core.Path.{◌≡◌, refl, sym, ap, subst, ◌∙◌}
 use mathlib.Core.Bool.{Bool, true, false, cond}
@@ -40,11 +41,7 @@ module _ (k : State) (ok : sound k ≡ true) (w o : List ℕ) where
   wrote-is = ap (λ (g : Given). wrote_by g w o) given_is
 
   wrote-number : (wrote k w o).answer.refusal ≡ cond (fits_in (length w) (length o) (event_of k)) 0 8
-  wrote-number = ap (λ (x : Wrote). x.answer.refusal) wrote-is ∙ go (fits_in (length w) (length o) (event_of k))
-    where
-      go : (b : Bool) → (cond b (gives k.units (event_of k)) (refused 8)).answer.refusal ≡ cond b 0 8
-      go true = refl
-      go false = refl
+  wrote-number = grind (rules, wrote-is)
 
   -- either way, with its number
   wrote-cases : (P : ℕ → Wrote → Type 0) → P 0 (wrote_by (gives k.units (event_of k)) w o) → P 8 (record { answer = refusal 8; words = w; units = o }) → P (wrote k w o).answer.refusal (wrote k w o)

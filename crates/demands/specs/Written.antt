@@ -1,5 +1,5 @@
 -- What `event` writes, read back by a caller, and what a caller sees of a sheet: units, not places.
-use Rattle.std.specs.Prelude.{ℕ, zero, suc, List, [], ◌∷◌, ◌++◌, map, length, get_or, take, drop}
+use Rattle.std.specs.Prelude.{ℕ, zero, suc, List, [], ◌∷◌, ◌++◌, map, length, get_or, take, drop, Option, None, Some}
 use Rattle.attrs.specs.declared.Attrs.{Attrs}
 use Rattle.attrs.specs.Packed.{says}
 use Rattle.rules.specs.Reading.{live, before, Glyph, unit, thing, Cell, cells, Op, insert, delete, retain}
@@ -8,12 +8,10 @@ use Rattle.ops.specs.declared.delta.Inserted.{Inserted}
 use Rattle.ops.specs.declared.delta.Inserted.TheVariants.{Text, Embed}
 use Rattle.ops.specs.declared.delta.Op.{Op as Kind}
 use Rattle.ops.specs.declared.delta.Op.TheVariants.{Insert, Delete, Retain}
-use Rattle.encoding.specs.declared.Found.{Found}
-use Rattle.encoding.specs.declared.Found.TheVariants.{Is, Nothing}
+use Rattle.ops.specs.declared.delta.DeltaOp.{DeltaOp}
 use Rattle.encoding.specs.Words.{found_at}
-use Rattle.events.specs.declared.event.EventAnswer.{EventAnswer}
 use Rattle.events.specs.Told.{Ops}
-use Rattle.events.specs.Given.{given, at_front}
+use Rattle.events.specs.Given.{EventAnswer, given, at_front}
 use Rattle.demands.specs.Steps.{State}
 
 -- ---- what is written
@@ -44,14 +42,14 @@ op_in o (Delete n) a = delete n
 op_in o (Retain n) a = retain n (says a)
 
 -- What `op_at` finds, as an operation of the rules; nothing where it finds none.
-abbrev pub ops_found : List ℕ → Found → Attrs → Ops
-ops_found o (Is k) a = op_in o k a ∷ []
-ops_found o Nothing a = []
+abbrev pub ops_found : List ℕ → Option DeltaOp → Ops
+ops_found o None = []
+ops_found o (Some d) = op_in o d.op d.attrs ∷ []
 
 -- The n operations from number i on.
 unfoldable pub read_back : ℕ → ℕ → List ℕ → List ℕ → Ops
 read_back i zero w o = []
-read_back i (suc n) w o = ops_found o (found_at w i).op (found_at w i).attrs ++ read_back (suc i) n w o
+read_back i (suc n) w o = ops_found o (found_at w i) ++ read_back (suc i) n w o
 
 -- ---- what a caller sees
 -- A unit itself, in the stead of its place.
