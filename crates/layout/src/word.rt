@@ -1,7 +1,7 @@
-// An item and the word that holds it. Words are taken apart and put together here alone.
+// An item and the word that holds it. Words are taken apart and put together here; only the walk of soundness reads a payload itself.
 ghost use Rattle.std.specs.Prelude.{◌≡◌, ◌<◌, ◌≤◌};
 ghost use Rattle.rules.specs.Sheet.{width, is_mark};
-ghost use Rattle.layout.specs.Word.{what_of, content_from, unpack_of, kind_of, payload_of, pack_of, relink_of, in_range, shown_len, live_mark};
+ghost use Rattle.layout.specs.Word.{what_of, content_from, unpack_of, kind_of, kind_in, payload_of, payload_in, pack_of, relink_of, in_range, shown_len, live_mark};
 
 #[derive(Clone, Copy)]
 pub enum Content {
@@ -37,7 +37,7 @@ pub fn is_mark(c: Content) -> bool
     matches!(c, Content::Mark { .. })
 }
 
-// A kind is a number here and in `kind`, as it stands in the word.
+// A kind is a number here and below, as it stands in the word.
 fn content_of(k: u64, p: u64) -> Content
     requires { p < 4294967296 }
     ensures { result ≡ content_from k p }
@@ -55,16 +55,46 @@ fn content_of(k: u64, p: u64) -> Content
     }
 }
 
+// The parts of a word one by one, for the walk that every call makes: an item made of each word takes it half as long again.
+pub fn next_of(w: u64) -> u32
+    ensures { result ≡ (unpack_of w).next }
+{
+    (w % 4096) as u32
+}
+
+// Deleted, added, deleted in the current transaction.
+pub fn flags_of(w: u64) -> (bool, bool, bool)
+    ensures dead { result.0 ≡ (unpack_of w).dead }
+    ensures added { result.1 ≡ (unpack_of w).added }
+    ensures gone { result.2 ≡ (unpack_of w).gone }
+{
+    let rest = w / 4096;
+    (rest / 4 % 2 == 1, rest / 8 % 2 == 1, rest / 16 % 2 == 1)
+}
+
+pub fn kind_of(w: u64) -> u64
+    ensures { result ≡ kind_in w }
+{
+    w / 4096 % 4
+}
+
+pub fn payload_of(w: u64) -> u64
+    ensures value { result ≡ payload_in w }
+    ensures bound { result < 4294967296 }
+{
+    w / 4096 / 32 % 4294967296
+}
+
 pub fn unpack(w: u64) -> Item
     ensures { result ≡ unpack_of w }
 {
-    let rest = w / 4096;
+    let (dead, added, gone) = flags_of(w);
     Item {
-        next: (w % 4096) as u32,
-        content: content_of(rest % 4, rest / 32 % 4294967296),
-        dead: rest / 4 % 2 == 1,
-        added: rest / 8 % 2 == 1,
-        gone: rest / 16 % 2 == 1,
+        next: next_of(w),
+        content: content_of(kind_of(w), payload_of(w)),
+        dead,
+        added,
+        gone,
     }
 }
 

@@ -1,1 +1,2 @@
 pub mod Measures
+pub mod Payloads

@@ -3,12 +3,12 @@
 
 ghost use Rattle.std.specs.Prelude.{◌≡◌, ◌<◌, ◌≤◌, length};
 ghost use Rattle.rules.specs.Sheet.{text};
-ghost use Rattle.layout.specs.Word.{what_of};
+ghost use Rattle.layout.specs.Word.{what_of, content_from, shown_len};
 ghost use Rattle.soundness.specs.Walk.{Sized, Plain, told, measure_of};
 ghost use Rattle.layout.specs.Memory.{flags_ok, len_of, what_ok, word_ok, sound_of};
 
 use layout::head::Head;
-use layout::word::{Content, in_range, shown_len, unpack};
+use layout::word::{flags_of, in_range, kind_of, next_of, payload_of};
 
 // The units of a sheet. `plain`: none of those in use is half of a pair, so that none has to be looked at.
 #[derive(Clone, Copy)]
@@ -36,31 +36,50 @@ fn piece_ok(start: u32, len: u32, texts: Texts) -> bool
     texts.plain || units::is_whole(&texts.units[start as usize..end as usize])
 }
 
-#[tactic(auto, unfolding(layout::specs::Memory::what_ok))]
-fn content_ok(c: Content, texts: Texts) -> bool
-    ensures { result ≡ what_ok texts.entry.units.now texts.entry.used (what_of c) }
+// What a kind and a payload say, here and below, with no item made of the word: every call makes this walk.
+fn content_ok(kind: u64, payload: u64, texts: Texts) -> bool
+    requires { payload < 4294967296 }
+    ensures { result ≡ what_ok texts.entry.units.now texts.entry.used (what_of (content_from kind payload)) }
 {
-    match c {
-        Content::Text { start, len } => piece_ok(start, len, texts),
-        Content::Embed(_) => true,
-        Content::Mark { key, value } => key < 16 && value < 256,
+    if kind == 0 {
+        return piece_ok((payload % 16384) as u32, (payload / 16384) as u32, texts);
     }
+    kind == 1 || payload / 16 < 256
 }
 
-#[tactic(auto, unfolding(layout::specs::Memory::word_ok))]
 fn word_ok(w: u64, texts: Texts) -> bool
     ensures { result ≡ word_ok texts.entry.units.now texts.entry.used w }
 {
-    let it = unpack(w);
-    in_range(w) && flags_ok(it.dead, it.added, it.gone) && content_ok(it.content, texts)
+    let (dead, added, gone) = flags_of(w);
+    if !in_range(w) || !flags_ok(dead, added, gone) {
+        return false;
+    }
+    content_ok(kind_of(w), payload_of(w), texts)
 }
 
-fn text_len(c: Content) -> u32
-    ensures { result ≡ len_of (what_of c) }
+fn text_len(kind: u64, payload: u64) -> u32
+    requires { payload < 4294967296 }
+    ensures { result ≡ len_of (what_of (content_from kind payload)) }
 {
-    match c {
-        Content::Text { len, .. } => len,
-        _ => 0,
+    if kind == 0 {
+        (payload / 16384) as u32
+    } else {
+        0
+    }
+}
+
+// What is added to the visible length.
+fn shown_len(dead: bool, kind: u64, payload: u64) -> u32
+    requires { payload < 4294967296 }
+    ensures { result ≡ shown_len dead (what_of (content_from kind payload)) }
+{
+    if dead {
+        return 0;
+    }
+    if kind == 1 {
+        1
+    } else {
+        text_len(kind, payload)
     }
 }
 
@@ -82,13 +101,14 @@ fn walk(h: Head, items: &[u64], texts: Texts) -> Option<u32>
         if !word_ok(w, texts) {
             return None;
         }
-        let it = unpack(w);
-        sum += text_len(it.content);
+        let kind = kind_of(w);
+        let payload = payload_of(w);
+        sum += text_len(kind, payload);
         if sum > h.units {
             return None;
         }
-        len += shown_len(it);
-        at = it.next;
+        len += shown_len(flags_of(w).0, kind, payload);
+        at = next_of(w);
     }
     if at == Head::END && sum == h.units {
         Some(len)

@@ -2,13 +2,12 @@
 -- visible length of the rest are that of the whole. Assumes nothing.
 use Prim.Native.Nat.{◌≤◌, ◌+◌, ◌-◌}
 use native.Mathlib.Omega.{arith}
-use mathlib.Core.Path.{◌≡◌, sym, ap, ◌∙◌}
+use mathlib.Core.Path.{◌≡◌, sym, ◌∙◌}
 use borrow.Author.Tests.{ne_eqb, eq-eqb}
 use lib.ListN.{get_or}
 use mathlib.Core.Bool.{◌&&◌}
 use lib.Dec.{eqb}
 use Rattle.units.proofs.Halves.{and_no-left, and_no-right}
-use Rattle.layout.specs.declared.word.Item.{Item}
 use Rattle.layout.specs.Word.{shown_len}
 use Rattle.layout.specs.Chain.{END, item_at}
 use Rattle.layout.specs.Memory.{len_of, word_ok, sound_of}
@@ -43,7 +42,7 @@ returns-then-not-word_ok c =
 
 pub returns-then-sum-h : goal.returns-then-sum-h
 returns-then-sum-h c =
-    measured-broken _ _ _ (whole_is (goal.at.returns-then-sum-h c).At-loop ∙ rest_over _ _ _ _ _ _ _ (omega arith) (rw (c.text_len-sum.ensures, c.unpack-it.ensures) at c.if-sum-h.true))
+    measured-broken _ _ _ (whole_is (goal.at.returns-then-sum-h c).At-loop ∙ rest_over _ _ _ _ _ _ _ (omega arith) (rw (c.text_len-sum.ensures, c.kind_of-kind.ensures, c.payload_of-payload.ensures.value) at c.if-sum-h.true))
 
 pub loop-preserved : goal.loop-preserved
 loop-preserved c =
@@ -52,9 +51,9 @@ loop-preserved c =
     let k = a.h.items - c.loop.counter in
     let met = item_at m c.loop.at in
     let fewer : a.h.items - (c.loop.counter + 1) ≡ k - 1 = omega arith in
-    let next = ap (λ (it : Item). it.next) c.unpack-it.ensures in
-    let units : c.text_len-sum.result ≡ len_of met.what = rw c.unpack-it.ensures at c.text_len-sum.ensures in
-    let shown : c.shown_len-len.result ≡ shown_len met.flags.dead met.what = rw c.unpack-it.ensures at c.shown_len-len.ensures in
+    let next = c.next_of-at.ensures in
+    let units : c.text_len-sum.result ≡ len_of met.what = rw (c.kind_of-kind.ensures, c.payload_of-payload.ensures.value) at c.text_len-sum.ensures in
+    let shown : c.shown_len-len.result ≡ shown_len met.flags.dead met.what = rw (c.flags_of.ensures.dead, c.kind_of-kind.ensures, c.payload_of-payload.ensures.value) at c.shown_len-len.ensures in
     let ok = sym (word-is (goal.at.loop-preserved c).After-word_ok) ∙ c.if-not-word_ok.false in (
       omega arith,
       rw (fewer, units, next) (sym (rest-step a.h.items _ _ _ k c.loop.at c.loop.sum (omega arith) c.if-at-h.false ok) ∙ c.loop.invariant.1),
