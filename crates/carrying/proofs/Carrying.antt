@@ -25,7 +25,8 @@ use Rattle.ops.specs.declared.delta.Op.{Op}
 use Rattle.ops.specs.declared.delta.Op.TheVariants.{Insert}
 use Rattle.ops.specs.declared.delta.DeltaOp.{DeltaOp}
 use Rattle.ops.specs.declared.delta.Delta.{Delta}
-use Rattle.carrying.specs.Turns.{given_at, held_by, brings, rule_of, laid, bringing, given, Tried}
+use Rattle.changes.specs.Frame.{Tried}
+use Rattle.carrying.specs.Turns.{given_at, held_by, brings, rule_of, laid, bringing, given}
 
 -- ---- one operation
 module _ {h : Head} {m : List ℕ} {p : Place} where

@@ -1,18 +1,16 @@
 -- The operations of a delta as they are carried out: where the units of each text will stand, and the rule that each follows.
-use Rattle.std.specs.Prelude.{ℕ, ◌+◌, ◌<◌, ◌≤◌, List, [], ◌∷◌, length, take}
+use Rattle.std.specs.Prelude.{ℕ, ◌+◌, List, [], ◌∷◌, take}
 use Rattle.sets.specs.Sets.{Set}
 use Rattle.attrs.specs.Packed.{says}
 use Rattle.rules.specs.Reading as rules
-use Rattle.rules.specs.Places.{At, Move, whole}
+use Rattle.rules.specs.Places.{Move}
 use Rattle.rules.specs.Delta.{Given, new_text, new_embed, move}
-use Rattle.layout.specs.declared.head.Head.{Head}
 use Rattle.ops.specs.declared.delta.Inserted.{Inserted}
 use Rattle.ops.specs.declared.delta.Inserted.TheVariants.{Text, Embed}
 use Rattle.ops.specs.declared.delta.Op.{Op}
 use Rattle.ops.specs.declared.delta.Op.TheVariants.{Insert, Delete, Retain}
 use Rattle.ops.specs.declared.delta.DeltaOp.{DeltaOp}
 use Rattle.ops.specs.declared.delta.Delta.{Delta}
-use Rattle.changes.specs.Frame.{Worked}
 
 -- What an Inserted holds, the units of its text laid behind m others; and how many units that is.
 abbrev pub given_at : ℕ → Inserted → Given
@@ -49,9 +47,3 @@ bringing (d ∷ ds) = brings d.op + bringing ds
 -- The operations that count.
 abbrev pub given : Delta → List DeltaOp
 given d = take d.count d.ops
-
--- A working copy in which a delta was carried out as far as it fits: all of what the rules give, or more than 2,048 items, and then
--- what the rules give is too long as well.
-pub record Tried (p : At) (h : Head) (m : List ℕ) : Type 0 where
-  pub fits : h.items ≤ 2048 → Worked p h m
-  pub long : 2048 < h.items → 2048 < length (whole p)

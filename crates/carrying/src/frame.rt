@@ -6,8 +6,8 @@ ghost use Rattle.changes.specs.Frame.{left, granted, Loadable};
 ghost use Rattle.carrying.specs.Turns.{laid, bringing};
 
 use crate::turns::carry_out;
-use arena::copies::copy;
 use arena::{At, Place};
+use changes::frame::in_working_copy;
 use layout::head::Head;
 use ops::delta::DeltaOp;
 use refusal::Refusal;
@@ -17,14 +17,9 @@ pub fn carry_all(h: Head, items: &mut [u64], ops: &[DeltaOp], used: u32) -> Resu
     requires { Loadable h items.old × (h.units + bringing ops.now ≤ 16384) }
     ensures { left h result items.new ≡ granted (delta (laid h.units ops.now) (list_of h items.old) h.items) used h items.old }
 {
-    let mut work = [0u64; 2088];
-    copy(h.items, items, &mut work);
-    let place = Place::start(h);
-    let from = At { head: h, place };
-    let new = carry_out(from, &mut work, h.units, ops);
-    if new.items > Head::ITEMS {
-        return Err(Refusal::Room);
-    }
-    copy(new.items, &work, items);
-    Ok(h.grown(new.first, new.items, used))
+    let from = At {
+        head: h,
+        place: Place::start(h),
+    };
+    in_working_copy(h, items, used, |work| carry_out(from, work, h.units, ops))
 }

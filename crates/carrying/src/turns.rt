@@ -3,7 +3,8 @@ ghost use Rattle.std.specs.Prelude.{◌≡◌, ◌+◌, ◌≤◌};
 ghost use Rattle.attrs.specs.Packed.{says};
 ghost use Rattle.rules.specs.Delta.{new_text, new_embed, insert_here, carry_out};
 ghost use Rattle.arena.specs.Places.{SIZE, Standing, placed, Carried};
-ghost use Rattle.carrying.specs.Turns.{given_at, held_by, brings, rule_of, laid, bringing, Tried};
+ghost use Rattle.changes.specs.Frame.{Tried};
+ghost use Rattle.carrying.specs.Turns.{given_at, held_by, brings, rule_of, laid, bringing};
 
 use arena::{At, Place};
 use attrs::Attrs;

@@ -1,4 +1,4 @@
--- An edit in a working copy, and back.
+-- A step in a working copy, and back.
 use Rattle.std.specs.Prelude.{ℕ, ◌<◌, ◌≤◌, ◌≡◌, true, cond, List, leb, length, get_or, Result}
 use Rattle.std.specs.Result.{result_unwrap_or}
 use Rattle.refusal.specs.declared.Refusal.{Refusal}
@@ -38,3 +38,22 @@ pub record Worked (p : At) (h : Head) (m : List ℕ) : Type 0 where
   pub arena : Arena h m
   pub list : list_of h m ≡ whole p
   pub next : h.items ≡ p.next
+
+-- A working copy in which a step went as far as it fits: all of what the rules give, or more than 2,048 items, and then
+-- what the rules give is too long as well.
+pub record Tried (p : At) (h : Head) (m : List ℕ) : Type 0 where
+  pub fits : h.items ≤ 2048 → Worked p h m
+  pub long : 2048 < h.items → 2048 < length (whole p)
+
+-- A working copy that holds the sheet.
+pub record CopyOf (h : Head) (m k : List ℕ) : Type 0 where
+  pub arena : Arena h k
+  pub list : list_of h k ≡ list_of h m
+
+-- What holds at every such copy.
+abbrev pub AtEach : Head → List ℕ → (List ℕ → Type 0) → Type 0
+AtEach h m P = (k : List ℕ) → CopyOf h m k → P k
+
+-- A step leads to a place of the rules: whatever it may leave of such a copy is what the rules give there, as far as it fits.
+abbrev pub Leads : Head → List ℕ → (List ℕ → Head → List ℕ → Type 0) → At → Type 0
+Leads h m leaves p = AtEach h m (λ k. (new : Head) (k' : List ℕ) → leaves k new k' → Tried p new k')
