@@ -61,7 +61,9 @@ delta-step many short ops h m u = go (sound_of h m u) refl many short
     go : (b : Bool) → sound_of h m u ≡ b → (many short : Bool)
         → cond b (cond many (kept_all 7 h m u) (cond short (kept_all 8 h m u) (carry (apply_delta ops) h m u))) (kept_all 9 h m u)
         ≡ answered (delta_step many short ops) (record { head = h; words = m; units = u })
-    go true e many short = grind rules
+    go true e true short = rw e
+    go true e false true = rw e
+    go true e false false = refl
     go false e many short = sym (broken-step (delta_step many short ops) (record { head = h; words = m; units = u }) e)
 
 -- ---- any steps
