@@ -37,7 +37,7 @@ fn part(units: &[u16], start: u32, len: u32) -> &[u16] {
 
 // A run's text, for which `text` has room.
 fn text_of<'a>(sheet: &Sheet, run: Run, text: &'a mut [u16; 16384]) -> &'a [u16] {
-    let _ = text_of_range(
+    let answer = text_of_range(
         sheet.head,
         &sheet.items,
         &sheet.units,
@@ -45,7 +45,7 @@ fn text_of<'a>(sheet: &Sheet, run: Run, text: &'a mut [u16; 16384]) -> &'a [u16]
         run.len,
         text,
     );
-    part(text, 0, run.len)
+    text.get(..answer.unwrap_or(0)).unwrap_or(&[])
 }
 
 fn show_content(rt: &impl Print, sheet: &Sheet, run: Run) -> io::Result<()> {

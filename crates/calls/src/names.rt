@@ -56,24 +56,17 @@ pub fn entry_line(rt: &impl Print, names: &mut Names, line: &[u8], number: u64) 
     };
     let h = names.head;
     let bytes = &line[asked.at..];
-    match entry {
-        Entry::Name => {
-            let answer = ask_name(h, &mut names.table, bytes);
-            told(rt, names, answer, "key")
-        }
-        Entry::String => {
-            let answer = ask_string(h, &mut names.table, bytes);
-            told(rt, names, answer, "value")
-        }
-        Entry::Bool(b) => {
-            let answer = ask_bool(h, &mut names.table, b);
-            told(rt, names, answer, "value")
-        }
-        Entry::Integer(u) => {
-            let answer = ask_int(h, &mut names.table, i64::from_le_bytes(u.to_le_bytes()));
-            told(rt, names, answer, "value")
-        }
-        Entry::NameOf(n) => show_name(rt, names, n),
-        Entry::ValueOf(v) => show_value(rt, names, v),
-    }
+    let answer = match entry {
+        Entry::Name => ask_name(h, &mut names.table, bytes),
+        Entry::String => ask_string(h, &mut names.table, bytes),
+        Entry::Bool(b) => ask_bool(h, &mut names.table, b),
+        Entry::Integer(u) => { ask_int(h, &mut names.table, i64::from_le_bytes(u.to_le_bytes())) }
+        Entry::NameOf(n) => return show_name(rt, names, n),
+        Entry::ValueOf(v) => return show_value(rt, names, v),
+    };
+    let what = match entry {
+        Entry::Name => "key",
+        _ => "value",
+    };
+    told(rt, names, answer, what)
 }

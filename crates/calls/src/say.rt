@@ -1,4 +1,4 @@
-// Parts of lines, written to standard output by the text of `words`, whose contracts say what it is.
+// Parts of lines. Units and attributes go through `put_unit` and `put_attrs`, whose clauses (`Wrote`) say what is written.
 ghost use Rattle.std.specs.Prelude.{◌≤◌, IfOk};
 
 use attrs::Attrs;
