@@ -2,8 +2,8 @@
 ghost use Rattle.std.specs.Prelude.{IfSome};
 ghost use Rattle.cursors.specs.Cursors.{Ready};
 
-use crate::letters::say_letters;
-use crate::say::{say, say_attrs, say_number, say_units};
+use crate::letters::Letters;
+use crate::say::{say_attrs, say_units};
 use crate::state::Sheet;
 use cursors::run::Run;
 use cursors::walk::Runs;
@@ -13,12 +13,11 @@ use layout::word::{Content, Item, unpack};
 use ops::delta::{DeltaOp, Inserted, Op};
 use ranges::text_of_range;
 use soundness::sound;
+use std::io;
 
-fn say_len(sheet: &Sheet) {
+fn say_len(rt: &impl Print, sheet: &Sheet) -> io::Result<()> {
     let len = items::len(sheet.head, &sheet.items, &sheet.units).unwrap_or(0);
-    say(b"len ");
-    say_number(u64::from(len));
-    say(b"\n");
+    println!(rt; "len {len}")
 }
 
 fn runs(sheet: &Sheet, joined: bool) -> Option<Runs<'_>>
@@ -38,7 +37,7 @@ fn part(units: &[u16], start: u32, len: u32) -> &[u16] {
 
 // A run's text, for which `text` has room.
 fn text_of<'a>(sheet: &Sheet, run: Run, text: &'a mut [u16; 16384]) -> &'a [u16] {
-    let _ = text_of_range(
+    let answer = text_of_range(
         sheet.head,
         &sheet.items,
         &sheet.units,
@@ -46,140 +45,118 @@ fn text_of<'a>(sheet: &Sheet, run: Run, text: &'a mut [u16; 16384]) -> &'a [u16]
         run.len,
         text,
     );
-    part(text, 0, run.len)
+    text.get(..answer.unwrap_or(0)).unwrap_or(&[])
 }
 
-fn show_content(sheet: &Sheet, run: Run) {
+fn show_content(rt: &impl Print, sheet: &Sheet, run: Run) -> io::Result<()> {
     if run.embed {
-        say(b"<");
-        say_number(u64::from(run.number));
-        say(b">");
+        print!(rt; "<{}>", run.number)?;
     } else {
-        say_letters(text_of(sheet, run, &mut [0; 16384]));
+        let mut text = [0; 16384];
+        let text = text_of(sheet, run, &mut text);
+        print!(rt; "{}", Letters { text })?;
     }
-    say_attrs(run.attrs);
+    say_attrs(rt, run.attrs)
 }
 
 // A run with attributes stands in brackets, its attributes behind it.
-fn show_run(sheet: &Sheet, run: Run) {
+fn show_run(rt: &impl Print, sheet: &Sheet, run: Run) -> io::Result<()> {
     if run.attrs.is_empty() {
-        show_content(sheet, run);
-    } else {
-        say(b"[");
-        show_content(sheet, run);
-        say(b"]");
+        return show_content(rt, sheet, run);
     }
+    print!(rt; "[")?;
+    show_content(rt, sheet, run)?;
+    print!(rt; "]")
 }
 
 // What `p` asks for: the visible text in one line, as a person reads it.
-pub fn show(sheet: &Sheet) {
+pub fn show(rt: &impl Print, sheet: &Sheet) -> io::Result<()> {
     if let Some(all) = runs(sheet, true) {
         for run in all {
-            show_run(sheet, run);
+            show_run(rt, sheet, run)?;
         }
     }
-    say(b"\n");
+    println!(rt;)
 }
 
-fn say_run(sheet: &Sheet, run: Run) {
+fn say_run(rt: &impl Print, sheet: &Sheet, run: Run) -> io::Result<()> {
     if run.embed {
-        say(b"e ");
-        say_number(u64::from(run.number));
+        print!(rt; "e {}", run.number)?;
     } else {
-        say(b"t");
-        say_units(text_of(sheet, run, &mut [0; 16384]));
+        print!(rt; "t")?;
+        say_units(rt, text_of(sheet, run, &mut [0; 16384]))?;
     }
-    say_attrs(run.attrs);
-    say(b"\n");
+    say_attrs(rt, run.attrs)?;
+    println!(rt;)
 }
 
 // One line a run, each behind `name`.
-fn say_runs(sheet: &Sheet, joined: bool, name: &[u8]) {
+fn say_runs(rt: &impl Print, sheet: &Sheet, joined: bool, name: &str) -> io::Result<()> {
     if let Some(all) = runs(sheet, joined) {
         for run in all {
-            say(name);
-            say_run(sheet, run);
+            print!(rt; "{name}")?;
+            say_run(rt, sheet, run)?;
         }
     }
+    Ok(())
 }
 
 // What stands at the end of the output.
-pub fn last(sheet: &Sheet) {
-    say_len(sheet);
-    say_runs(sheet, true, b"");
+pub fn last(rt: &impl Print, sheet: &Sheet) -> io::Result<()> {
+    say_len(rt, sheet)?;
+    say_runs(rt, sheet, true, "")
 }
 
-fn say_content(sheet: &Sheet, at: u32, content: Content) {
+fn say_content(rt: &impl Print, sheet: &Sheet, at: u32, content: Content) -> io::Result<()> {
     match content {
         Content::Text { .. } => {
-            say(b"item text");
-            say_units(items::text_of(sheet.head, &sheet.items, &sheet.units, at));
+            print!(rt; "item text")?;
+            say_units(
+                rt,
+                items::text_of(sheet.head, &sheet.items, &sheet.units, at),
+            )
         }
-        Content::Embed(n) => {
-            say(b"item embed ");
-            say_number(u64::from(n));
-        }
-        Content::Mark { key, value } => {
-            say(b"item mark ");
-            say_number(u64::from(key));
-            say(b"=");
-            say_number(u64::from(value));
-        }
+        Content::Embed(n) => print!(rt; "item embed {n}"),
+        Content::Mark { key, value } => print!(rt; "item mark {key}={value}"),
     }
 }
 
-fn say_flags(it: Item) {
-    if it.dead {
-        say(b" D");
-    }
-    if it.added {
-        say(b" a");
-    }
-    if it.gone {
-        say(b" d");
-    }
-    say(b"\n");
+fn say_flags(rt: &impl Print, it: Item) -> io::Result<()> {
+    let dead = if it.dead { " D" } else { "" };
+    let added = if it.added { " a" } else { "" };
+    let gone = if it.gone { " d" } else { "" };
+    println!(rt; "{dead}{added}{gone}")
 }
 
-fn say_items(sheet: &Sheet) {
+fn say_items(rt: &impl Print, sheet: &Sheet) -> io::Result<()> {
     let mut at = sheet.head.first;
     for _ in 0..sheet.head.items {
         let Some(word) = sheet.items.get(at as usize) else {
-            return;
+            break;
         };
         let it = unpack(*word);
-        say_content(sheet, at, it.content);
-        say_flags(it);
+        say_content(rt, sheet, at, it.content)?;
+        say_flags(rt, it)?;
         at = it.next;
     }
+    Ok(())
 }
 
-fn say_op(d: DeltaOp, units: &[u16]) {
+fn say_op(rt: &impl Print, d: DeltaOp, units: &[u16]) -> io::Result<()> {
     match d.op {
         Op::Insert(Inserted::Text { start, len }) => {
-            say(b"ev i");
-            say_units(part(units, start, len));
+            print!(rt; "ev i")?;
+            say_units(rt, part(units, start, len))?;
         }
-        Op::Insert(Inserted::Embed(n)) => {
-            say(b"ev x ");
-            say_number(u64::from(n));
-        }
-        Op::Delete(n) => {
-            say(b"ev d ");
-            say_number(u64::from(n));
-        }
-        Op::Retain(n) => {
-            say(b"ev r ");
-            say_number(u64::from(n));
-        }
+        Op::Insert(Inserted::Embed(n)) => print!(rt; "ev x {n}")?,
+        Op::Delete(n) => return println!(rt; "ev d {n}"),
+        Op::Retain(n) => print!(rt; "ev r {n}")?,
     }
-    if !matches!(d.op, Op::Delete(_)) {
-        say_attrs(d.attrs);
-    }
-    say(b"\n");
+    say_attrs(rt, d.attrs)?;
+    println!(rt;)
 }
 
-fn say_event(sheet: &Sheet) {
+fn say_event(rt: &impl Print, sheet: &Sheet) -> io::Result<()> {
     let mut words = [0; 16384];
     let mut units = [0; 16384];
     let answer = event(
@@ -192,18 +169,19 @@ fn say_event(sheet: &Sheet) {
     if let Ok(written) = answer {
         for i in 0..written.ops {
             if let Some(d) = op_at(&words, i) {
-                say_op(d, &units);
+                say_op(rt, d, &units)?;
             }
         }
     }
+    Ok(())
 }
 
 // What `q` asks for.
-pub fn query(sheet: &Sheet) {
-    say_items(sheet);
-    say_len(sheet);
-    say_runs(sheet, false, b"run ");
-    say_runs(sheet, true, b"joined ");
-    say_event(sheet);
-    say(b".\n");
+pub fn query(rt: &impl Print, sheet: &Sheet) -> io::Result<()> {
+    say_items(rt, sheet)?;
+    say_len(rt, sheet)?;
+    say_runs(rt, sheet, false, "run ")?;
+    say_runs(rt, sheet, true, "joined ")?;
+    say_event(rt, sheet)?;
+    println!(rt; ".")
 }

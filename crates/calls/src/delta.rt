@@ -4,11 +4,11 @@ use crate::state::{Sheet, State};
 use deltas::apply::apply_delta;
 use lines::deltas::{AskedDelta, read_delta};
 use lines::fields::End;
+use std::io;
 
-fn applied(sheet: &mut Sheet, asked: AskedDelta, chunk: &[u16]) {
+fn applied(rt: &impl Print, sheet: &mut Sheet, asked: AskedDelta, chunk: &[u16]) -> io::Result<()> {
     if let Some(refusal) = asked.refusal {
-        say_refused(refusal);
-        return;
+        return say_refused(rt, refusal);
     }
     let answer = apply_delta(
         sheet.head,
@@ -19,15 +19,14 @@ fn applied(sheet: &mut Sheet, asked: AskedDelta, chunk: &[u16]) {
         &[0; 2048],
         &[0; 16384],
     );
-    sheet.told(answer);
+    sheet.told(rt, answer)
 }
 
-pub fn delta_line(s: &mut State, line: &[u8], number: u64) {
+pub fn delta_line(rt: &impl Print, s: &mut State, line: &[u8], number: u64) -> io::Result<()> {
     let asked = read_delta(line, &mut s.text);
     if asked.end != End::Line {
-        say_no_call(number);
-        return;
+        return say_no_call(rt, number);
     }
-    applied(&mut s.sheet, asked, &s.text[..asked.count]);
     s.touched = true;
+    applied(rt, &mut s.sheet, asked, &s.text[..asked.count])
 }

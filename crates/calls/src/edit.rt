@@ -2,7 +2,7 @@
 use crate::answer::{last, query, show};
 use crate::delta::delta_line;
 use crate::names::entry_line;
-use crate::say::{say, say_no_call, say_refused};
+use crate::say::{say_no_call, say_refused};
 use crate::state::{Sheet, State};
 use items::begin;
 use layout::head::Head;
@@ -10,6 +10,7 @@ use lines::calls::{Asked, Call, read_call};
 use refusal::Refusal;
 use sheet::insert::{insert, insert_embed, insert_embed_with_attributes, insert_with_attributes};
 use sheet::range::{format, remove_range};
+use std::io;
 
 fn carried(sheet: &mut Sheet, asked: Asked, chunk: &[u16]) -> Result<Head, Refusal> {
     let h = sheet.head;
@@ -29,37 +30,37 @@ fn carried(sheet: &mut Sheet, asked: Asked, chunk: &[u16]) -> Result<Head, Refus
     }
 }
 
-fn edited(sheet: &mut Sheet, asked: Asked, chunk: &[u16]) {
+fn edited(rt: &impl Print, sheet: &mut Sheet, asked: Asked, chunk: &[u16]) -> io::Result<()> {
     if let Some(refusal) = asked.refusal {
-        say_refused(refusal);
-        return;
+        return say_refused(rt, refusal);
     }
     let answer = carried(sheet, asked, chunk);
-    sheet.told(answer);
+    sheet.told(rt, answer)
 }
 
 // A fresh sheet and table, where a call was made.
-fn fresh(s: &mut State) {
+fn fresh(rt: &impl Print, s: &mut State) -> io::Result<()> {
     if s.touched {
-        last(&s.sheet);
-        say(b"new\n");
+        last(rt, &s.sheet)?;
+        println!(rt; "new")?;
         s.clear();
     }
+    Ok(())
 }
 
-pub fn run_line(s: &mut State, line: &[u8], number: u64) {
+pub fn run_line(rt: &impl Print, s: &mut State, line: &[u8], number: u64) -> io::Result<()> {
     let Some(asked) = read_call(line, &mut s.text) else {
-        say_no_call(number);
-        return;
+        return say_no_call(rt, number);
     };
     match asked.call {
-        Call::Silent => return,
-        Call::Fresh => return fresh(s),
-        Call::Delta => return delta_line(s, line, number),
-        Call::Entry => entry_line(&mut s.names, line, number),
-        Call::Query => query(&s.sheet),
-        Call::Show => show(&s.sheet),
-        _ => edited(&mut s.sheet, asked, &s.text[..asked.count]),
+        Call::Silent => return Ok(()),
+        Call::Fresh => return fresh(rt, s),
+        Call::Delta => return delta_line(rt, s, line, number),
+        Call::Entry => entry_line(rt, &mut s.names, line, number)?,
+        Call::Query => query(rt, &s.sheet)?,
+        Call::Show => show(rt, &s.sheet)?,
+        _ => edited(rt, &mut s.sheet, asked, &s.text[..asked.count])?,
     }
     s.touched = true;
+    Ok(())
 }

@@ -5,6 +5,7 @@ ghost use Rattle.calls.specs.declared.input.TheConstants.{ROOM};
 use crate::edit::run_line;
 use crate::say::say_no_call;
 use crate::state::State;
+use std::io;
 use std::io::{Read, Stdin};
 use words::input::{first_line, to_front};
 
@@ -29,7 +30,13 @@ pub struct Place {
 }
 
 // A line whose newline stands `e` bytes behind the start.
-fn whole(p: Place, e: usize, buf: &[u8; ROOM], state: &mut State) -> Place
+fn whole(
+    rt: &impl Print,
+    p: Place,
+    e: usize,
+    buf: &[u8; ROOM],
+    state: &mut State,
+) -> io::Result<Place>
     requires { p.waiting.start + e < p.waiting.end }
 {
     let Waiting { start, end } = p.waiting;
@@ -39,15 +46,15 @@ fn whole(p: Place, e: usize, buf: &[u8; ROOM], state: &mut State) -> Place
         end,
     };
     if p.long {
-        return Place {
+        return Ok(Place {
             waiting,
             long: false,
             ..p
-        };
+        });
     }
     let line = p.line.wrapping_add(1);
-    run_line(state, &buf[start..stop], line);
-    Place { waiting, line, ..p }
+    run_line(rt, state, &buf[start..stop], line)?;
+    Ok(Place { waiting, line, ..p })
 }
 
 // The first n bytes, with one more part behind them; nothing comes at the end of the input, and where a read fails.
@@ -74,41 +81,53 @@ fn refilled(stdin: Stdin, p: Place, buf: &mut [u8; ROOM], n: usize) -> Place
 }
 
 // No newline waits. A line that fills the buffer is no call, and what is left of it is passed over.
-fn part(stdin: Stdin, p: Place, buf: &mut [u8; ROOM]) -> Place {
+fn part(rt: &impl Print, stdin: Stdin, p: Place, buf: &mut [u8; ROOM]) -> io::Result<Place> {
     if p.long {
-        return refilled(stdin, p, buf, 0);
+        return Ok(refilled(stdin, p, buf, 0));
     }
     let n = to_front(buf, p.waiting.start, p.waiting.end);
     if n < ROOM {
-        return refilled(stdin, p, buf, n);
+        return Ok(refilled(stdin, p, buf, n));
     }
     let line = p.line.wrapping_add(1);
-    say_no_call(line);
+    say_no_call(rt, line)?;
     let long = Place {
         line,
         long: true,
         ..p
     };
-    refilled(stdin, long, buf, 0)
+    Ok(refilled(stdin, long, buf, 0))
 }
 
-fn step(stdin: Stdin, p: Place, buf: &mut [u8; ROOM], state: &mut State) -> Place {
+fn step(
+    rt: &impl Print,
+    stdin: Stdin,
+    p: Place,
+    buf: &mut [u8; ROOM],
+    state: &mut State,
+) -> io::Result<Place> {
     match first_line(buf, p.waiting.start, p.waiting.end) {
-        Some(e) => whole(p, e, buf, state),
-        None => part(stdin, p, buf),
+        Some(e) => whole(rt, p, e, buf, state),
+        None => part(rt, stdin, p, buf),
     }
 }
 
 // What waits at the end of the input is a line too.
-fn rest(p: Place, buf: &[u8; ROOM], state: &mut State) {
+fn rest(rt: &impl Print, p: Place, buf: &[u8; ROOM], state: &mut State) -> io::Result<()> {
     let Waiting { start, end } = p.waiting;
     if !p.long && start < end {
-        run_line(state, &buf[start..end], p.line.wrapping_add(1));
+        run_line(rt, state, &buf[start..end], p.line.wrapping_add(1))?;
     }
+    Ok(())
 }
 
 // A proved loop ends, and nothing says that the input does: the turns are counted up to a number that no run reaches.
-pub fn all_lines(stdin: Stdin, buf: &mut [u8; ROOM], state: &mut State) {
+pub fn all_lines(
+    rt: &impl Print,
+    stdin: Stdin,
+    buf: &mut [u8; ROOM],
+    state: &mut State,
+) -> io::Result<()> {
     let mut p = Place {
         waiting: Waiting { start: 0, end: 0 },
         line: 0,
@@ -117,9 +136,9 @@ pub fn all_lines(stdin: Stdin, buf: &mut [u8; ROOM], state: &mut State) {
     };
     for _ in 0..u64::MAX {
         if !p.more {
-            rest(p, buf, state);
-            return;
+            return rest(rt, p, buf, state);
         }
-        p = step(stdin, p, buf, state);
+        p = step(rt, stdin, p, buf, state)?;
     }
+    Ok(())
 }

@@ -1,10 +1,19 @@
-// Text as a person reads it: UTF-8.
-use crate::say::say;
+// Text as a person reads it.
+use std::fmt;
 
-pub fn say_letters(text: &[u16]) {
-    for letter in char::decode_utf16(text.iter().copied()) {
-        if let Ok(c) = letter {
-            say(c.encode_utf8(&mut [0; 4]).as_bytes());
+// A half of a pair that stands alone is left out; no sheet has one.
+#[derive(Drop)]
+pub struct Letters<'a> {
+    pub text: &'a [u16],
+}
+
+impl fmt::Display for Letters<'_> {
+    fn fmt<W: fmt::Write>(&self, f: &mut fmt::Formatter<W>) -> fmt::Result {
+        for letter in char::decode_utf16(self.text.iter().copied()) {
+            if let Ok(c) = letter {
+                write!(f, "{c}")?;
+            }
         }
+        Ok(())
     }
 }

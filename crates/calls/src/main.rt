@@ -1,7 +1,7 @@
 // Reads one call a line from standard input, and writes `refused N` for each refused one; at the end the length and the joined runs.
 #![tactic(auto)]
 
-mod say; // what is written
+mod say; // parts of lines, written
 mod letters; // text as a person reads it
 mod answer; // the length, runs, items and the event of a sheet
 mod state; // what is kept from line to line
@@ -11,10 +11,11 @@ mod edit; // one line's call
 mod input; // lines from standard input
 
 use state::State;
+use std::io;
 
-fn main(rt: HostRuntime) {
+fn main(rt: HostRuntime) -> io::Result<()> {
     let mut buf = [0; input::ROOM];
     let mut state = State::fresh();
-    input::all_lines(rt.stdin(), &mut buf, &mut state);
-    answer::last(&state.sheet);
+    input::all_lines(&rt, rt.stdin(), &mut buf, &mut state)?;
+    answer::last(&rt, &state.sheet)
 }

@@ -1,68 +1,44 @@
-// What is written to standard output.
-ghost use Rattle.std.specs.Prelude.{◌+◌, ◌≤◌, length};
-ghost use Rattle.io.specs.Counts.{IsPrefixLen};
+// Parts of lines. Units and attributes go through `put_unit` and `put_attrs`, whose clauses (`Wrote`) say what is written.
+ghost use Rattle.std.specs.Prelude.{◌≤◌, IfOk};
 
 use attrs::Attrs;
 use refusal::Refusal;
+use std::io;
 use words::show::{put_attrs, put_unit};
 
-// The number that the system gives standard output.
-const STDOUT_FILENO: i32 = 1;
-
-pub fn say(text: &[u8]) {
-    io::write_all(STDOUT_FILENO, text);
-}
-
-pub fn say_number(x: u64) {
-    io::print_decimal(STDOUT_FILENO, x);
-}
-
-pub fn say_attrs(set: Attrs) {
+// Each behind a space.
+pub fn say_attrs(rt: &impl Print, set: Attrs) -> io::Result<()> {
     let mut text = [0; 672];
     let n = put_attrs(&mut text, 0, set);
-    say(&text[..n]);
+    rt.write_all(&text[..n])
 }
 
 // Behind n bytes that wait, which are written first where there is no room.
-fn add_unit(out: &mut [u8], n: usize, u: u16) -> usize
-    requires n_in_bounds { n ≤ length out.old }
-    requires in_bounds { 5 ≤ length out.old }
-    ensures { result ≤ length out.new }
+fn add_unit(rt: &impl Print, out: &mut [u8; 4096], n: usize, u: u16) -> io::Result<usize>
+    requires { n ≤ 4096 }
+    ensures { IfOk result (λ end. end ≤ 4096) }
 {
     if out.len() - n >= 5 {
-        return put_unit(out, n, u);
+        return Ok(put_unit(out, n, u));
     }
-    say(&out[..n]);
-    put_unit(out, 0, u)
-}
-
-// How many bytes wait behind the last unit.
-fn add_units(out: &mut [u8], units: &[u16]) -> usize
-    requires { 5 ≤ length out.old }
-    ensures { IsPrefixLen result out.new }
-{
-    let mut n = 0;
-    for u in units {
-        n = add_unit(out, n, *u);
-    }
-    n
+    rt.write_all(&out[..n])?;
+    Ok(put_unit(out, 0, u))
 }
 
 // Each behind a space.
-pub fn say_units(units: &[u16]) {
-    let mut out = io::buffer();
-    let n = add_units(&mut out, units);
-    say(&out[..n]);
+pub fn say_units(rt: &impl Print, units: &[u16]) -> io::Result<()> {
+    let mut out = [0; 4096];
+    let mut n = 0;
+    for u in units {
+        n = add_unit(rt, &mut out, n, *u)?;
+    }
+    rt.write_all(&out[..n])
 }
 
-pub fn say_refused(refusal: Refusal) {
-    say(b"refused ");
-    say_number(u64::from(u32::from(refusal)));
-    say(b"\n");
+pub fn say_refused(rt: &impl Print, refusal: Refusal) -> io::Result<()> {
+    println!(rt; "refused {}", u32::from(refusal))
 }
 
-pub fn say_no_call(line: u64) {
-    say(b"no call, line ");
-    say_number(line);
-    say(b"\n");
+pub fn say_no_call(rt: &impl Print, line: u64) -> io::Result<()> {
+    println!(rt; "no call, line {line}")
 }

@@ -2,6 +2,7 @@
 use crate::say::say_refused;
 use layout::head::Head;
 use refusal::Refusal;
+use std::io;
 use table::TableHead;
 
 #[derive(Drop)]
@@ -21,11 +22,12 @@ impl Sheet {
     }
 
     // After a call: a refused one leaves the head as it was.
-    pub fn told(&mut self, answer: Result<Head, Refusal>) {
+    pub fn told(&mut self, rt: &impl Print, answer: Result<Head, Refusal>) -> io::Result<()> {
         match answer {
             Ok(head) => self.head = head,
-            Err(refusal) => say_refused(refusal),
+            Err(refusal) => say_refused(rt, refusal)?,
         }
+        Ok(())
     }
 }
 

@@ -3,7 +3,7 @@ use Rattle.cursors.specs.Cursors.{Ready}
 use Rattle.calls.proofs.answer.say_runs.Given as goal
 
 abbrev pub invariant-loop-run : goal.invariant-loop-run
-invariant-loop-run l = Ready l.run-iterator
+invariant-loop-run g l = Ready l.run-iterator
 
 abbrev pub decreases-loop-run : goal.decreases-loop-run
-decreases-loop-run l = l.run-iterator.spot.todo
+decreases-loop-run g l = l.run-iterator.spot.todo
