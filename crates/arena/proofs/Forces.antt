@@ -16,6 +16,7 @@ use Rattle.layout.specs.declared.head.Head.{Head}
 use Rattle.layout.specs.declared.word.Content.{Content}
 use Rattle.layout.specs.declared.word.Content.TheVariants.{Text, Embed, Mark}
 use Rattle.layout.specs.Word.{what_of, unpack_of}
+use Rattle.layout.specs.Force.{mark_on}
 use Rattle.layout.specs.Chain.{item_at, next_at, chain, walks}
 use Rattle.layout.proofs.Links.{walks_parts}
 use Rattle.arena.specs.declared.Place.{Place}
@@ -27,7 +28,7 @@ abbrev pub item_of : ℕ → Content → Bool → Bool → Bool → Item
 item_of n c d a g = record { num = n; what = what_of c; flags = record { dead = d; added = a; gone = g } }
 
 one-past : (e : Env) (n : ℕ) (c : Content) (d a g : Bool) → InRange c → passed_force (packed (as_set e)) d c ≡ packed (as_set (after e (item_of n c d a g ∷ [])))
-unfolding passed_force
+unfolding passed_force mark_on
 one-past e n c true a g t = refl
 one-past e n (Text s l) false a g t = refl
 one-past e n (Embed x) false a g t = refl

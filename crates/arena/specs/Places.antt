@@ -1,15 +1,16 @@
 -- Places in a working copy of a sheet's items, and what it means that code carries a rule out there.
-use Rattle.std.specs.Prelude.{ℕ, suc, ◌+◌, ◌-◌, ◌/◌, ◌%◌, ◌<◌, ◌≤◌, ◌≡◌, Bool, true, false, List, [], ◌∷◌, length, get_or, take, drop}
+use Rattle.std.specs.Prelude.{ℕ, suc, ◌+◌, ◌-◌, ◌/◌, ◌%◌, ◌<◌, ◌≤◌, ◌≡◌, Bool, true, cond, List, [], ◌∷◌, length, get_or, take, drop}
 use Rattle.attrs.specs.declared.Attrs.{Attrs}
 use Rattle.sets.specs.Sets.{empty, none, as_set}
-use Rattle.attrs.specs.Packed.{packed, update_at}
+use Rattle.attrs.specs.Packed.{packed}
 use Rattle.rules.specs.Sheet.{Item, like, kill, width}
 use Rattle.rules.specs.Places.{At, Move, stay, over, after, and_then, left_half, right_half, place}
 use Rattle.layout.specs.declared.head.Head.{Head}
 use Rattle.layout.specs.declared.word.Content.{Content}
 use Rattle.layout.specs.declared.word.Content.TheVariants.{Text, Embed, Mark}
 use Rattle.layout.specs.declared.word.Item as Word
-use Rattle.layout.specs.Word.{unpack_of}
+use Rattle.layout.specs.Word.{what_of, unpack_of}
+use Rattle.layout.specs.Force.{mark_on}
 use Rattle.layout.specs.Chain.{END, item_at, chain, walks, head_or, last_or}
 use Rattle.arena.specs.declared.Place.{Place}
 
@@ -76,10 +77,7 @@ start_of h = record { left = END; right = h.first; todo = h.items; force = packe
 
 -- What passing an item makes of what is in force.
 unfoldable pub passed_force : Attrs → Bool → Content → Attrs
-passed_force a true c = a
-passed_force a false (Text s l) = a
-passed_force a false (Embed n) = a
-passed_force a false (Mark k v) = (update_at a k v).attrs
+passed_force a d c = cond d a (mark_on a (what_of c))
 
 -- The place behind the item right of a place, which says this ..
 abbrev pub behind : Place → Word.Item → Place

@@ -2,11 +2,12 @@
 #![tactic(auto)]
 
 ghost use Rattle.std.specs.Prelude.{◌≡◌, false, ◌-◌, ◌<◌, ◌≤◌, length};
-ghost use Rattle.arena.specs.Places.{start_of, passed_force, behind, forward_of, kept_place};
+ghost use Rattle.arena.specs.Places.{start_of, behind, forward_of, kept_place};
 
 use attrs::Attrs;
+use layout::force::passed;
 use layout::head::Head;
-use layout::word::{Content, Item, is_live_mark, unpack};
+use layout::word::{Item, is_live_mark, unpack};
 
 pub mod writes; // what is written into it
 pub mod copies; // from a sheet into it, and back
@@ -48,7 +49,7 @@ impl Place {
 
     // Behind the item right of the place, which is this one. Its set is touched at a live mark alone: a walk that hands whole
     // places from turn to turn takes more than twice as long.
-    #[tactic(auto, unfolding(crate::specs::Places::passed_force))]
+    #[tactic(auto, unfolding(crate::specs::Places::passed_force, layout::specs::Force::mark_on))]
     fn pass(&mut self, it: Item)
         requires { 0 < self.old.todo }
         ensures { self.new ≡ behind self.old it }
@@ -67,19 +68,6 @@ impl Place {
 pub struct At {
     pub head: Head,
     pub place: Place,
-}
-
-// What is in force behind a live item.
-#[tactic(auto, unfolding(crate::specs::Places::passed_force))]
-fn passed(force: Attrs, content: Content) -> Attrs
-    ensures { result ≡ passed_force force false content }
-{
-    match content {
-        Content::Text { .. } | Content::Embed(_) => force,
-        Content::Mark { key, value } => force
-            .update_current_attributes(key, value)
-            .unwrap_or(force),
-    }
 }
 
 // The place behind the item right of a place.

@@ -70,6 +70,7 @@ fn turned_by(a: Assembler, t: Turn) -> Passed
 }
 
 // A new embed is told at once; any other is one unit like a text's.
+#[tactic(auto, unfolding(layout::specs::Force::mark_on))]
 pub fn pass(a: Assembler, s: Sight, content: Content) -> Passed
     requires { load a + width (what_of content) < 4294967296 }
     ensures { result ≡ pass_by s.was s.is (what_of content) a }
@@ -93,8 +94,8 @@ pub fn pass(a: Assembler, s: Sight, content: Content) -> Passed
             Passed {
                 asm: Assembler {
                     attrs: changed(a.attrs, p, key),
-                    current: past(a.current, s.is, key, value),
-                    old: past(a.old, s.was, key, value),
+                    current: past(a.current, s.is, content),
+                    old: past(a.old, s.was, content),
                     ..told.asm
                 },
                 ..told

@@ -1,13 +1,17 @@
 // What a mark does: to the pending attributes, to those in force, and to the run.
-ghost use Rattle.std.specs.Prelude.{◌≡◌, true, false};
+ghost use Rattle.std.specs.Prelude.{◌≡◌, true, false, cond};
 ghost use Rattle.sets.specs.Sets.{absent, is};
 ghost use Rattle.attrs.specs.Packed.{says, env_of};
 ghost use Rattle.rules.specs.Event.{change};
-ghost use Rattle.assembling.specs.Steps.{pending_of, breaks_by, changed_by, past_by, mark_turn};
+ghost use Rattle.layout.specs.Word.{what_of};
+ghost use Rattle.layout.specs.Force.{mark_on};
+ghost use Rattle.assembling.specs.Steps.{pending_of, breaks_by, changed_by, mark_turn};
 
 use crate::assembler::Assembler;
 use crate::runs::{Kind, Run, Sight, Turn};
 use attrs::Attrs;
+use layout::force::passed;
+use layout::word::Content;
 
 // What a mark makes of its key's pending attribute.
 #[derive(Clone, Copy)]
@@ -93,15 +97,11 @@ pub(crate) fn changed(attrs: Attrs, p: Pending, key: u32) -> Attrs
     }
 }
 
-// What is in force past a mark that is seen, or not.
-pub(crate) fn past(force: Attrs, seen: bool, key: u32, value: u32) -> Attrs
-    ensures { result ≡ past_by force seen key value }
+// What is in force past an item that is seen, or not.
+pub(crate) fn past(force: Attrs, seen: bool, content: Content) -> Attrs
+    ensures { result ≡ cond seen (mark_on force (what_of content)) force }
 {
-    if seen {
-        force.update_current_attributes(key, value).unwrap_or(force)
-    } else {
-        force
-    }
+    if seen { passed(force, content) } else { force }
 }
 
 pub(crate) fn mark_turn(p: Pending, is: bool, run: Option<Run>) -> Turn

@@ -16,7 +16,8 @@ use Rattle.attrs.proofs.Force.{within_keyed, env_update, env-packed, update-pack
 use Rattle.rules.specs.Sheet.{What, text, embed, mark, Item}
 use Rattle.rules.specs.Reading.{live, pass_key}
 use Rattle.rules.specs.Sound.{Fits}
-use Rattle.cursors.specs.Cursors.{mark_on, passed_by, Plain}
+use Rattle.layout.specs.Force.{mark_on}
+use Rattle.cursors.specs.Cursors.{passed_by, Plain}
 
 -- nothing is in force at the start
 pub env-none : env_of (packed empty) ≡ none

@@ -17,7 +17,8 @@ use Rattle.layout.specs.Word.{shown_len}
 use Rattle.cursors.specs.declared.run.Run.{Run}
 use Rattle.cursors.specs.declared.walk.Spot.{Spot}
 use Rattle.cursors.specs.Records.{records_of, runs_by}
-use Rattle.cursors.specs.Cursors.{mark_on, passed_by, stops_at, ends_by, rest, records_at, Plain, Stands, text_record}
+use Rattle.layout.specs.Force.{mark_on}
+use Rattle.cursors.specs.Cursors.{passed_by, stops_at, ends_by, rest, records_at, Plain, Stands, text_record}
 use Rattle.cursors.proofs.Merges.{stretch, same_refl, ahead-ahead, open-ahead}
 use Rattle.cursors.proofs.Forces.{env-passed, same-plain, same-is}
 use Rattle.cursors.proofs.Spots.{here, next, rest-next, rest-none, steps, text-record}

@@ -23,7 +23,8 @@ use Rattle.layout.proofs.Links.{walks-lt, walks_next, chain-step}
 use Rattle.cursors.specs.declared.run.Run.{Run}
 use Rattle.cursors.specs.declared.walk.Spot.{Spot}
 use Rattle.cursors.specs.Records.{record_of, records_of, runs_by}
-use Rattle.cursors.specs.Cursors.{passes_of, mark_on, passed_by, past_of, rest, records_at, Plain, Stands, text_record, embed_record, Skipped, Gathered}
+use Rattle.layout.specs.Force.{mark_on}
+use Rattle.cursors.specs.Cursors.{passes_of, passed_by, past_of, rest, records_at, Plain, Stands, text_record, embed_record, Skipped, Gathered}
 use Rattle.cursors.proofs.Forces.{plain-passed, env-passed, count-plain}
 
 -- the item at a place, and the place behind it

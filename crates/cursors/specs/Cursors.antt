@@ -2,7 +2,7 @@
 use Rattle.std.specs.Prelude.{ℕ, ◌+◌, ◌-◌, ◌<◌, ◌≤◌, ◌≡◌, Bool, true, false, cond, not, ◌||◌, List, ◌∷◌, length}
 use Rattle.std.specs.Iterator.{Count, at_most}
 use Rattle.sets.specs.Sets.{empty, keys, as_set, same_sets, present}
-use Rattle.attrs.specs.Packed.{says, env_of, packed, update_at}
+use Rattle.attrs.specs.Packed.{says, env_of, packed}
 use Rattle.attrs.specs.declared.Attrs.{Attrs}
 use Rattle.rules.specs.Sheet.{What, text, embed, mark, is_mark, Item}
 use Rattle.rules.specs.Reading.{visible, Glyph}
@@ -12,6 +12,7 @@ use Rattle.layout.specs.Word.{shown_len}
 use Rattle.layout.specs.declared.word.Item.{Item as Entry}
 use Rattle.layout.specs.declared.head.Head.{Head}
 use Rattle.layout.specs.Word.{what_of}
+use Rattle.layout.specs.Force.{mark_on}
 use Rattle.layout.specs.Chain.{chain, walks, item_at}
 use Rattle.cursors.specs.declared.run.Run.{Run}
 use Rattle.cursors.specs.declared.walk.Spot.{Spot}
@@ -25,11 +26,6 @@ unfoldable pub passes_of : Bool → What → Bool
 passes_of d w = d || is_mark w
 
 -- What is in force behind it.
-unfoldable pub mark_on : Attrs → What → Attrs
-mark_on a (text s n) = a
-mark_on a (embed x) = a
-mark_on a (mark k v) = (update_at a k v).attrs
-
 unfoldable pub passed_by : Attrs → Bool → What → Attrs
 passed_by a d w = cond d a (mark_on a w)
 

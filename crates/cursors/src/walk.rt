@@ -2,10 +2,11 @@
 ghost use Rattle.std.specs.Prelude.{◌≡◌, ◌+◌, ◌<◌};
 ghost use Rattle.std.specs.Iterator.{YieldsFirst, MakesProgress};
 ghost use Rattle.layout.specs.Word.{what_of, shown_len};
-ghost use Rattle.cursors.specs.Cursors.{passes_of, passed_by, ends_by, past_of, text_record, start_of, left, items_ahead, Ready, Stays, Stands, Skipped, Gathered};
+ghost use Rattle.cursors.specs.Cursors.{passes_of, ends_by, past_of, text_record, start_of, left, items_ahead, Ready, Stays, Stands, Skipped, Gathered};
 
 use crate::run::Run;
 use attrs::Attrs;
+use layout::force::passed;
 use layout::head::Head;
 use layout::word::{Content, Item, is_mark, shown_len, unpack};
 
@@ -161,6 +162,7 @@ fn ends(joined: bool, run: Attrs, force: Attrs, it: Item) -> bool
 }
 
 // The place behind its item.
+#[tactic(auto, unfolding(crate::specs::Cursors::passed_by))]
 fn past(s: Spot, it: Item) -> Spot
     requires todo_nonzero { 0 < s.todo }
     requires content_bound { s.passed + shown_len it.dead (what_of it.content) < 4294967296 }
@@ -170,22 +172,10 @@ fn past(s: Spot, it: Item) -> Spot
         at: it.next,
         todo: s.todo - 1,
         passed: s.passed + shown_len(it),
-        force: passed(s.force, it),
-    }
-}
-
-// What is in force behind an item.
-#[tactic(auto, unfolding(crate::specs::Cursors::passed_by, crate::specs::Cursors::mark_on))]
-fn passed(force: Attrs, it: Item) -> Attrs
-    ensures { result ≡ passed_by force it.dead (what_of it.content) }
-{
-    if it.dead {
-        return force;
-    }
-    match it.content {
-        Content::Text { .. } | Content::Embed(_) => force,
-        Content::Mark { key, value } => force
-            .update_current_attributes(key, value)
-            .unwrap_or(force),
+        force: if it.dead {
+            s.force
+        } else {
+            passed(s.force, it.content)
+        },
     }
 }

@@ -1,4 +1,5 @@
 pub mod Word
 pub mod Chain
 pub mod Heads
+pub mod Force
 pub mod Memory

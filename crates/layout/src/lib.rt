@@ -3,3 +3,4 @@
 
 pub mod word; // an item as one packed word
 pub mod head; // what is carried by value
+pub mod force; // what is in force behind an item
