@@ -9,18 +9,15 @@ use lib.Dec.{ltb}
 use lib.ListN.{length, get_or, take, drop, length-drop}
 use lib.Seq.{drop-cons, length-take-le}
 use borrow.Author.Tests.{le-ltb, ltb-true, ltb-false}
+use Rattle.std.proofs.lemmas.List.{map-append}
 use Rattle.units.specs.Surrogates.{paired, splits_pair}
 use Rattle.units.proofs.Pairing.{splits-end, splits-append, splits-behind}
 use Rattle.rules.specs.Sheet.{What, text, embed, mark, Item, width}
-use Rattle.rules.specs.Reading.{Glyph, units_of, glyphs, seen_glyphs}
+use Rattle.rules.specs.Reading.{units_of, glyphs, seen_glyphs}
 use Rattle.rules.specs.Places.{uses}
 use Rattle.rules.specs.Sound.{AllFit, Fits}
 use Rattle.rules.specs.Calls.{unit_at, visible_units, PairedWhat, AllPaired}
 use Rattle.cuts.specs.Cuts.{cuts_piece, cut_at}
-
-map-append : (f : Glyph → ℕ) (a b : List Glyph) → map f (a ++ b) ≡ map f a ++ map f b
-map-append f [] b = refl
-map-append f (x ∷ a) b = ap (λ (l : List ℕ). f x ∷ l) (map-append f a b)
 
 module _ (us : List ℕ) where
   -- a piece shows its units
