@@ -60,7 +60,7 @@ pub fn entry_line(rt: &impl Print, names: &mut Names, line: &[u8], number: u64) 
         Entry::Name => ask_name(h, &mut names.table, bytes),
         Entry::String => ask_string(h, &mut names.table, bytes),
         Entry::Bool(b) => ask_bool(h, &mut names.table, b),
-        Entry::Integer(u) => { ask_int(h, &mut names.table, i64::from_le_bytes(u.to_le_bytes())) }
+        Entry::Integer(u) => ask_int(h, &mut names.table, i64::from_le_bytes(u.to_le_bytes())),
         Entry::NameOf(n) => return show_name(rt, names, n),
         Entry::ValueOf(v) => return show_value(rt, names, v),
     };
