@@ -41,9 +41,9 @@ returns-in_err-embed_fault c =
     rw (p.1, p.2) (carry-fault (asked s) _ _ _ (sound-here (goal.at.returns-in_err-embed_fault c).Else-not-sound) _ (ruled s) _ c.in_err-embed_fault.ensures)
 
 pub edit-requires : goal.edit-requires
-edit-requires c = (sound-loads _ _ _ (sound-here (goal.at.edit-requires c).Else-not-sound), subst⁻¹ Ready c.embed_change-change.ensures (embed_ready _ c.args.attrs (omega (arith, c.ranges.number))))
+edit-requires c = (sound-loads _ _ _ (sound-here (goal.at.edit-requires c).Else-not-sound), subst⁻¹ Ready c.with_or_plain-change.ensures (embed_ready _ c.args.attrs (omega (arith, c.ranges.number))))
 
 pub returns : goal.returns
 returns c =
     carry-edited (asked (goal.at.returns c).Start) _ _ _ (sound-here (goal.at.returns c).Else-not-sound) _ (ruled (goal.at.returns c).Start) _ c.in_ok-embed_fault.ensures refl refl _
-    (granted_by _ _ _ _ _ c.edit.ensures c.embed_change-change.ensures)
+    (granted_by _ _ _ _ _ c.edit.ensures c.with_or_plain-change.ensures)

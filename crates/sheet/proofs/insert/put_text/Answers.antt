@@ -73,7 +73,7 @@ returns-then-chunk-start c =
 pub edit-requires : goal.edit-requires
 edit-requires c = (
   sound-loads _ _ _ (sound-here (goal.at.edit-requires c).Else-not-sound),
-  subst⁻¹ Ready c.text_change-change.ensures (text_ready _ _ c.args.attrs (some (goal.at.edit-requires c).Else-is_empty) (few (goal.at.edit-requires c).Else-chunk-start)),
+  subst⁻¹ Ready c.with_or_plain-change.ensures (text_ready _ _ c.args.attrs (some (goal.at.edit-requires c).Else-is_empty) (few (goal.at.edit-requires c).Else-chunk-start)),
 )
 
 pub returns-in_err-head : goal.returns-in_err-head
@@ -84,7 +84,7 @@ returns-in_err-head c =
     let p = err_from_is_err_and c.from_residual-in_err-head.result c.from_residual-in_err-head.ensures.1 in
     rw (p.1, p.2) (
     carry-granted (asked s) _ _ _ sound _ (ruled (goal.at.returns-in_err-head c).Else-is_empty) _ c.in_ok-text_fault.ensures refl _ (text-long a.index a.chunk.now a.attrs a.h a.items.now a.units.now sound) (few (goal.at.returns-in_err-head c).Else-chunk-start) _
-    (granted_by _ _ _ _ _ c.in_err-head.ensures c.text_change-change.ensures)
+    (granted_by _ _ _ _ _ c.in_err-head.ensures c.with_or_plain-change.ensures)
     _ (rw (ne_eqb _ 0 (number-some c.in_err-head.field-0.0)))
     )
 
@@ -97,5 +97,5 @@ returns c =
     let a = s.args in
     let sound = sound-here (goal.at.returns c).Else-not-sound in
     carry-granted (asked s) _ _ _ sound _ (ruled (goal.at.returns c).Else-is_empty) _ c.in_ok-text_fault.ensures refl _ (text-long a.index a.chunk.now a.attrs a.h a.items.now a.units.now sound) (few (goal.at.returns c).Else-chunk-start) _
-    (granted_by _ _ _ _ _ c.in_ok-head.ensures c.text_change-change.ensures)
+    (granted_by _ _ _ _ _ c.in_ok-head.ensures c.with_or_plain-change.ensures)
     _ c.append.ensures
