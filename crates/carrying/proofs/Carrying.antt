@@ -119,6 +119,10 @@ length_mapped X Y f l n e = sym (length-map X Y f l) ∙ e
 abbrev pub unread : DeltaOp
 unread = record { op = Insert (Text 0 0); attrs = record { mask = 0; values = [] } }
 
+-- the operation that is next
+pub next-is : (ds : List DeltaOp) (i : ℕ) → i < length ds → drop i ds ≡ get_or ds i unread ∷ drop (suc i) ds
+next-is ds i more = drop-cons ds i unread more
+
 pub given-length : (d : Delta) → length d.ops ≡ 256 → d.count ≤ 256 → length (given d) ≡ d.count
 given-length d long few = length-take-le d.count d.ops (omega arith)
 

@@ -1,7 +1,7 @@
 // The operations of a delta, carried out one after the other in a working copy.
 ghost use Rattle.std.specs.Prelude.{◌≡◌, ◌+◌, ◌≤◌};
 ghost use Rattle.attrs.specs.Packed.{says};
-ghost use Rattle.rules.specs.Delta.{new_text, new_embed, insert_here, carry_out};
+ghost use Rattle.rules.specs.Delta.{new_text, insert_here, carry_out};
 ghost use Rattle.arena.specs.Places.{SIZE, Standing, placed, Carried};
 ghost use Rattle.changes.specs.Frame.{Tried};
 ghost use Rattle.carrying.specs.Turns.{given_at, held_by, brings, rule_of, laid, bringing};
@@ -26,20 +26,13 @@ fn insert_text(h: Head, work: &mut [u64], p: Place, start: u32, len: u32, attrs:
     insert(h, work, p, Content::Text { start, len }, attrs)
 }
 
-fn insert_embed(h: Head, work: &mut [u64], p: Place, number: u32, attrs: Attrs) -> At
-    requires { Standing h work.old p × (h.items + 33 ≤ SIZE) }
-    ensures { Carried (insert_here (new_embed number) (says attrs)) h work.old p result.head work.new result.place }
-{
-    insert(h, work, p, Content::Embed(number), attrs)
-}
-
 fn insert_part(h: Head, work: &mut [u64], p: Place, used: u32, part: Inserted, attrs: Attrs) -> At
     requires { Standing h work.old p × (h.items + 33 ≤ SIZE) × (used + held_by part ≤ 16384) }
     ensures { Carried (insert_here (given_at used part) (says attrs)) h work.old p result.head work.new result.place }
 {
     match part {
-        Inserted::Text { start: _, len } => insert_text(h, work, p, used, len, attrs),
-        Inserted::Embed(number) => insert_embed(h, work, p, number, attrs),
+        Inserted::Text { len, .. } => insert_text(h, work, p, used, len, attrs),
+        Inserted::Embed(number) => insert(h, work, p, Content::Embed(number), attrs),
     }
 }
 

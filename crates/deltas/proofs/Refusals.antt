@@ -62,15 +62,29 @@ check-on us c (rules.retain n a) os = go (splits_pair us (c + n))
     go false e = refl
 
 -- ---- one operation
-module _ (us : List ℕ) (l c n : ℕ) (b : Bool) (e : b ≡ splits_pair us (c + n)) (f : b ≡ false) (long : l ≡ length us) where
-  uncut : ◌≡◌ {A = ℕ} (cond (too_long us c n) 1 0) (cond (splits_pair us (c + n)) 2 (cond (too_long us c n) 1 0))
-  uncut = ap {B = ℕ} (λ (x : Bool). cond x 2 (cond (too_long us c n) 1 0)) (sym (sym e ∙ f))
+module _ (us : List ℕ) (l c n : ℕ) where
+  -- a pair that a deletion cuts is its fault ..
+  pub delete-pair : {r : ℕ} → r ≡ cond (splits_pair us (c + n)) 2 0 → (r ≡ 0 → ⊥) → r ≡ cond (splits_pair us (c + n)) 2 (cond (too_long us c n) 1 0)
+  delete-pair {r} e some = go (splits_pair us (c + n)) e
+    where
+      go : (b : Bool) → r ≡ cond b 2 0 → r ≡ cond b 2 (cond (too_long us c n) 1 0)
+      go true q = q
+      go false q = absurd (some q)
 
-  pub delete-short : l - c < n → ◌≡◌ {A = ℕ} 1 (cond (splits_pair us (c + n)) 2 (cond (too_long us c n) 1 0))
-  delete-short h = ap {B = ℕ} (λ (x : Bool). cond x 1 0) (sym (lt-ltb (length us - c) n (omega (arith, long)))) ∙ uncut
+  -- .. and where it cuts none its length decides
+  module _ (e : ◌≡◌ {A = ℕ} 0 (cond (splits_pair us (c + n)) 2 0)) (long : l ≡ length us) where
+    uncut : ◌≡◌ {A = ℕ} (cond (too_long us c n) 1 0) (cond (splits_pair us (c + n)) 2 (cond (too_long us c n) 1 0))
+    uncut = go (splits_pair us (c + n)) e
+      where
+        go : (b : Bool) → ◌≡◌ {A = ℕ} 0 (cond b 2 0) → ◌≡◌ {A = ℕ} (cond (too_long us c n) 1 0) (cond b 2 (cond (too_long us c n) 1 0))
+        go true q = absurd (omega (arith, q))
+        go false q = refl
 
-  pub delete-fine : n ≤ l - c → ◌≡◌ {A = ℕ} 0 (cond (splits_pair us (c + n)) 2 (cond (too_long us c n) 1 0))
-  delete-fine h = ap {B = ℕ} (λ (x : Bool). cond x 1 0) (sym (le-ltb (length us - c) n (omega (arith, long)))) ∙ uncut
+    pub delete-short : l - c < n → ◌≡◌ {A = ℕ} 1 (cond (splits_pair us (c + n)) 2 (cond (too_long us c n) 1 0))
+    delete-short h = ap {B = ℕ} (λ (x : Bool). cond x 1 0) (sym (lt-ltb (length us - c) n (omega (arith, long)))) ∙ uncut
+
+    pub delete-fine : n ≤ l - c → ◌≡◌ {A = ℕ} 0 (cond (splits_pair us (c + n)) 2 (cond (too_long us c n) 1 0))
+    delete-fine h = ap {B = ℕ} (λ (x : Bool). cond x 1 0) (sym (le-ltb (length us - c) n (omega (arith, long)))) ∙ uncut
 
 pub part_in_lem : {x : Inserted} (n s k : ℕ) → x ≡ Text s k → past_part n x ≡ false → s + k ≤ n
 part_in_lem n s k e h = ltb-false n (s + k) (subst (λ (y : Inserted). past_part n y ≡ false) e h)

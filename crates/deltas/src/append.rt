@@ -15,12 +15,9 @@ fn append_op(units: &mut [u16], at: u32, op: Op, chunk: &[u16])
     requires { (at + brings op ≤ length units.old) × (past_end (length chunk.now) op ≡ false) }
     ensures { units.new ≡ appended at (units_of chunk.now op) units.old }
 {
-    match op {
-        Op::Insert(Inserted::Text { start, len }) => {
-            let a = start as usize;
-            append(units, at, &chunk[a..a + len as usize]);
-        }
-        _ => {}
+    if let Op::Insert(Inserted::Text { start, len }) = op {
+        let a = start as usize;
+        append(units, at, &chunk[a..a + len as usize]);
     }
 }
 

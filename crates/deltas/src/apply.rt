@@ -37,7 +37,7 @@ fn carry_read(
     let used = h.units as usize;
     fault(h, items, &units[..used], all, ops, chunk)?;
     let new = total(ops);
-    if new > (Head::UNITS - h.units) as u64 {
+    if new > u64::from(Head::UNITS - h.units) {
         return Err(Refusal::Room);
     }
     let head = carry_all(h, items, ops, h.units + new as u32)?;
@@ -57,9 +57,7 @@ pub fn apply_delta(
 ) -> Result<Head, Refusal>
     ensures { leaving h result items.new units.new ≡ carry_delta (length scratch_items.now) (length scratch_units.now) chunk.now delta h items.old units.old }
 {
-    let Some(len) = measure(h, items, units) else {
-        return Err(Refusal::Broken);
-    };
+    let len = measure(h, items, units).ok_or(Refusal::Broken)?;
     if many(chunk.len(), delta) {
         return Err(Refusal::Many);
     }

@@ -11,7 +11,7 @@ fn past_end(n: usize, op: Op) -> bool
     ensures { result ≡ past_end n op }
 {
     match op {
-        Op::Insert(Inserted::Text { start, len }) => start as u64 + len as u64 > n as u64,
+        Op::Insert(Inserted::Text { start, len }) => u64::from(start) + u64::from(len) > n as u64,
         _ => false,
     }
 }

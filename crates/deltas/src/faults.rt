@@ -41,7 +41,7 @@ fn retain_fault(h: Head, items: &[u64], used: &[u16], c: u32, n: u32) -> Result<
     requires { Readable h items.now used.now }
     ensures { refusal_in result ≡ cond (splits_pair (visible_units used.now (list_of h items.now)) (c + n)) 2 0 }
 {
-    if cuts_pair(h, items, used, c as u64 + n as u64) {
+    if cuts_pair(h, items, used, u64::from(c) + u64::from(n)) {
         return Err(Refusal::Pair);
     }
     Ok(())
@@ -59,9 +59,7 @@ fn delete_fault(
     requires { Readable h items.now used.now × (len ≡ length (visible_units used.now (list_of h items.now))) × (c ≤ len) }
     ensures { refusal_in result ≡ cond (splits_pair (visible_units used.now (list_of h items.now)) (c + n)) 2 (cond (too_long (visible_units used.now (list_of h items.now)) c n) 1 0) }
 {
-    if cuts_pair(h, items, used, c as u64 + n as u64) {
-        return Err(Refusal::Pair);
-    }
+    retain_fault(h, items, used, c, n)?;
     if len - c < n {
         return Err(Refusal::Short);
     }

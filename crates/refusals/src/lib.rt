@@ -25,11 +25,12 @@ fn pair_fault(h: Head, items: &[u64], units: &[u16], index: u64) -> Result<(), R
     Ok(())
 }
 
+// An embed has nothing wrong of its own: its index alone decides, and callers have that in 32 bits.
 pub fn embed_fault(h: Head, items: &[u64], units: &[u16], index: u32) -> Result<(), Refusal>
     requires { sound_of h items.now units.now ≡ true }
     ensures { refusal_in result ≡ cond (splits_pair (seen (model_of h items.now units.now)) index) 2 0 }
 {
-    pair_fault(h, items, units, index as u64)
+    pair_fault(h, items, units, u64::from(index))
 }
 
 pub fn text_fault(
@@ -59,9 +60,9 @@ pub fn range_fault(
     requires { sound_of h items.now units.now ≡ true }
     ensures { refusal_in result ≡ cond (bad_range (seen (model_of h items.now units.now)) index len) 2 0 }
 {
-    let start = index as u64;
+    let start = u64::from(index);
     pair_fault(h, items, units, start)?;
-    pair_fault(h, items, units, start + len as u64)
+    pair_fault(h, items, units, start + u64::from(len))
 }
 
 // `all` is the visible length.
@@ -77,7 +78,7 @@ pub fn removal_fault(
     ensures { refusal_in result ≡ removal_fault (seen (model_of h items.now units.now)) index n }
 {
     range_fault(h, items, units, index, n)?;
-    if n > 0 && index as u64 + n as u64 > all as u64 {
+    if n > 0 && u64::from(index) + u64::from(n) > u64::from(all) {
         return Err(Refusal::Short);
     }
     Ok(())

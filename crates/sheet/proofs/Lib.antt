@@ -1,2 +1,3 @@
 pub mod Inserts
+pub mod Measured
 pub mod Theorems

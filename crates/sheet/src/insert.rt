@@ -3,7 +3,7 @@ ghost use Rattle.std.specs.Prelude.{◌≡◌};
 ghost use Rattle.attrs.specs.Packed.{says};
 ghost use Rattle.rules.specs.Calls.{insert_text, insert_text_with, insert_embed, insert_embed_with};
 ghost use Rattle.layout.specs.Memory.{leaving, carry};
-ghost use Rattle.sheet.specs.Inserts.{text_call, embed_call, text_change, embed_change};
+ghost use Rattle.sheet.specs.Inserts.{text_call, embed_call, with_or_plain};
 
 use attrs::Attrs;
 use changes::append::append;
@@ -15,27 +15,13 @@ use refusal::Refusal;
 use refusals::{embed_fault, text_fault};
 use soundness::sound;
 
-fn text_change(start: u32, len: u32, attrs: Option<Attrs>) -> Change
-    ensures { result ≡ text_change start len attrs }
+// The plain change is named by its caller, since a mark has none.
+fn with_or_plain(content: Content, plain: Change, attrs: Option<Attrs>) -> Change
+    ensures { result ≡ with_or_plain content plain attrs }
 {
     match attrs {
-        Some(attrs) => Change::With {
-            content: Content::Text { start, len },
-            attrs,
-        },
-        None => Change::PlainText { start, len },
-    }
-}
-
-fn embed_change(number: u32, attrs: Option<Attrs>) -> Change
-    ensures { result ≡ embed_change number attrs }
-{
-    match attrs {
-        Some(attrs) => Change::With {
-            content: Content::Embed(number),
-            attrs,
-        },
-        None => Change::PlainEmbed(number),
+        Some(attrs) => Change::With { content, attrs },
+        None => plain,
     }
 }
 
@@ -61,7 +47,8 @@ fn put_text(
         return Err(Refusal::Room);
     }
     let len = chunk.len() as u32;
-    let change = text_change(start, len, attrs);
+    let text = Content::Text { start, len };
+    let change = with_or_plain(text, Change::PlainText { start, len }, attrs);
     let head = edit(h, items, index, change, start + len)?;
     append(units, start, chunk);
     Ok(head)
@@ -81,7 +68,8 @@ fn put_embed(
         return Err(Refusal::Broken);
     }
     embed_fault(h, items, units, index)?;
-    let change = embed_change(number, attrs);
+    let embed = Content::Embed(number);
+    let change = with_or_plain(embed, Change::PlainEmbed(number), attrs);
     edit(h, items, index, change, h.units)
 }
 

@@ -40,9 +40,7 @@ pub fn remove_range(
 ) -> Result<Head, Refusal>
     ensures { leaving h result items.new units.now ≡ carry (remove_range index len) h items.old units.now }
 {
-    let Some(all) = measure(h, items, units) else {
-        return Err(Refusal::Broken);
-    };
+    let all = measure(h, items, units).ok_or(Refusal::Broken)?;
     removal_fault(h, items, units, all, index, len)?;
     if len == 0 {
         return Ok(h);

@@ -1,22 +1,10 @@
 -- `deltas::append::append_all` meets its contract: what is left to put gives what there was to put at first. Assumes nothing.
-use Prim.Native.Nat.{ℕ, suc, ◌+◌}
+use Prim.Native.Nat.{ℕ, ◌+◌}
 use native.Mathlib.Omega.{arith}
-use mathlib.Core.Path.{◌≡◌, sym, ap, ◌∙◌}
-use mathlib.Core.List.{◌∷◌}
-use lib.ListN.{get_or, drop}
-use lib.Seq.{drop-cons}
-use Rattle.carrying.proofs.Carrying.{unread}
+use mathlib.Core.Path.{sym, ap, ◌∙◌}
+use Rattle.carrying.proofs.Carrying.{next-is}
 use Rattle.deltas.proofs.Appending.{putting-start, put-part, put-room, putting-next, putting-done}
 use Rattle.deltas.proofs.append.append_all.Goals as goal
-use Rattle.deltas.proofs.append.append_all.Goals.{In-loop-d}
-
--- the operation that is next
-next-is : (c : In-loop-d) → (
-    let ds = c.args.ops.now in
-    let i = c.loop-d.d-index in
-    drop i ds ≡ get_or ds i unread ∷ drop (suc i) ds
-    )
-next-is c = drop-cons c.args.ops.now _ unread c.loop-d-test.true
 
 pub loop-d-init : goal.loop-d-init
 loop-d-init c = putting-start _ _ _ _ c.requires.0 c.requires.2 c.requires.1
@@ -24,13 +12,13 @@ loop-d-init c = putting-start _ _ _ _ c.requires.0 c.requires.2 c.requires.1
 pub append_op-requires : goal.append_op-requires
 append_op-requires c =
     let on = c.loop-d.invariant in
-    (omega (arith, put-room on _ (next-is (goal.at.append_op-requires c).In-loop-d), on.long), put-part on _ (next-is (goal.at.append_op-requires c).In-loop-d))
+    (omega (arith, put-room on _ (next-is _ _ c.loop-d-test.true), on.long), put-part on _ (next-is _ _ c.loop-d-test.true))
 
 pub overflow_add-at : goal.overflow_add-at
-overflow_add-at c = omega (arith, put-room c.loop-d.invariant _ (next-is (goal.at.overflow_add-at c).In-loop-d), c.brought-at.ensures)
+overflow_add-at c = omega (arith, put-room c.loop-d.invariant _ (next-is _ _ c.loop-d-test.true), c.brought-at.ensures)
 
 pub loop-d-preserved : goal.loop-d-preserved
-loop-d-preserved c = putting-next c.loop-d.invariant _ (next-is (goal.at.loop-d-preserved c).In-loop-d) _ c.append_op.ensures _ (ap (λ (k : ℕ). c.loop-d.at + k) c.brought-at.ensures)
+loop-d-preserved c = putting-next c.loop-d.invariant _ (next-is _ _ c.loop-d-test.true) _ c.append_op.ensures _ (ap (λ (k : ℕ). c.loop-d.at + k) c.brought-at.ensures)
 
 pub shape_of-units : goal.shape_of-units
 shape_of-units c = c.loop-d.invariant.long ∙ sym c.requires.0

@@ -4,8 +4,10 @@ use native.Mathlib.Omega.{arith}
 use mathlib.Core.Path.{◌≡◌, sym, ◌∙◌}
 use mathlib.Core.Bool.{true, false}
 use lib.ListN.{length}
-use Rattle.layout.specs.Memory.{sound_of}
-use Rattle.soundness.proofs.Measures.{sound-is, len_is}
+use Rattle.rules.specs.Reading.{visible}
+use Rattle.layout.specs.Memory.{list_of, sound_of}
+use Rattle.sheet.proofs.Measured.{measured-ok, measured-err}
+use Rattle.std.proofs.lemmas.Result.{err_from_is_err_and}
 use Rattle.std.proofs.lemmas.List.{length-take}
 use Rattle.ops.specs.declared.delta.DeltaOp.{DeltaOp}
 use Rattle.ops.specs.Ops.{ops_of}
@@ -14,13 +16,13 @@ use Rattle.deltas.specs.Checks.{any_past, many_of}
 use Rattle.deltas.proofs.Reading.{many-none}
 use Rattle.deltas.proofs.Applying.{carried-unsound, carried-many, carried-short, carried-ruled}
 use Rattle.deltas.proofs.apply.apply_delta.Goals as goal
-use Rattle.deltas.proofs.apply.apply_delta.Goals.{Else-many, In-Some}
+use Rattle.deltas.proofs.apply.apply_delta.Goals.{Else-many, In_ok-len}
 
-sound-here : (c : In-Some) → (
+sound-here : (c : In_ok-len) → (
     let a = c.args in
-    sound_of a.h a.items.now a.units.now ≡ true
+    (sound_of a.h a.items.now a.units.now ≡ true) × (c.in_ok-len.len ≡ visible (list_of a.h a.items.now))
     )
-sound-here c = sym (sound-is _ _ _ _ c.in-Some.ensures)
+sound-here c = measured-ok _ _ _ _ c.measure.ensures (sym c.ok_or.ensures.value ∙ c.in_ok-len.was)
 
 read_here : (c : Else-many) → (
     let a = c.args in
@@ -28,14 +30,17 @@ read_here : (c : Else-many) → (
     )
 read_here c = sym c.many.ensures ∙ c.if-many.false
 
-pub returns-in_default : goal.returns-in_default
-returns-in_default c = carried-unsound _ _ _ _ _ _ _ (sym (sound-is _ _ _ _ c.in_default.ensures))
+pub returns-in_err-len : goal.returns-in_err-len
+returns-in_err-len c =
+    let p = err_from_is_err_and c.from_residual.result c.from_residual.ensures.1 in
+    let m = measured-err _ _ _ _ c.measure.ensures (sym c.ok_or.ensures.value ∙ c.in_err-len.was) in
+    rw (p.1, p.2, sym m.1) (carried-unsound _ _ _ _ _ _ _ m.0)
 
 pub returns-then-many : goal.returns-then-many
-returns-then-many c = carried-many _ _ _ _ _ _ _ (sound-here (goal.at.returns-then-many c).In-Some) (sym c.many.ensures ∙ c.if-many.true)
+returns-then-many c = carried-many _ _ _ _ _ _ _ (sound-here (goal.at.returns-then-many c).In_ok-len).0 (sym c.many.ensures ∙ c.if-many.true)
 
 pub returns-then-short_scratch : goal.returns-then-short_scratch
-returns-then-short_scratch c = carried-short _ _ _ _ _ _ _ (sound-here (goal.at.returns-then-short_scratch c).In-Some) (read_here (goal.at.returns-then-short_scratch c).Else-many) (sym c.short_scratch.ensures ∙ c.if-short_scratch.true)
+returns-then-short_scratch c = carried-short _ _ _ _ _ _ _ (sound-here (goal.at.returns-then-short_scratch c).In_ok-len).0 (read_here (goal.at.returns-then-short_scratch c).Else-many) (sym c.short_scratch.ensures ∙ c.if-short_scratch.true)
 
 -- the operations, which are no more than there may be and have their texts in the lent units
 parts : (c : Else-many) → (c.args.delta.count ≤ 256) × (any_past (length c.args.chunk.now) (given c.args.delta) ≡ false)
@@ -46,13 +51,13 @@ operations-requires c = (parts (goal.at.operations-requires c).Else-many).0
 
 pub carry_read-requires : goal.carry_read-requires
 carry_read-requires c =
-    let sound = sound-here (goal.at.carry_read-requires c).In-Some in
+    let sound = sound-here (goal.at.carry_read-requires c).In_ok-len in
     let p = parts (goal.at.carry_read-requires c).Else-many in
     rw c.operations.ensures
-    (sound, len_is _ _ _ _ c.in-Some.ensures sound, omega (arith, p.0, length-take {A = DeltaOp} c.args.delta.count c.args.delta.ops), p.1)
+    (sound.0, sound.1, omega (arith, p.0, length-take {A = DeltaOp} c.args.delta.count c.args.delta.ops), p.1)
 
 pub returns : goal.returns
 unfolding ops_of
 returns c =
-    carried-ruled _ _ _ _ _ _ _ (sound-here (goal.at.returns c).In-Some) (read_here (goal.at.returns c).Else-many) (sym c.short_scratch.ensures ∙ c.if-short_scratch.false) _
+    carried-ruled _ _ _ _ _ _ _ (sound-here (goal.at.returns c).In_ok-len).0 (read_here (goal.at.returns c).Else-many) (sym c.short_scratch.ensures ∙ c.if-short_scratch.false) _
     (rw c.operations.ensures at c.carry_read.ensures)

@@ -23,18 +23,18 @@ use Rattle.ops.specs.Ops.{op_of}
 use Rattle.carrying.specs.Turns.{laid, bringing}
 use Rattle.deltas.proofs.Applying.{delta-long, delta-granted}
 use Rattle.deltas.proofs.apply.carry_read.Goals as goal
-use Rattle.deltas.proofs.apply.carry_read.Goals.{Else-new-h, Start}
+use Rattle.deltas.proofs.apply.carry_read.Goals.{Else-new-from, Start}
 
 -- the call that is asked for
 abbrev asked : Start → Call
 asked s = apply_delta (map (op_of s.args.chunk.now) s.args.ops.now)
 
 -- it has room for its units
-fits : (c : Else-new-h) → (
+fits : (c : Else-new-from) → (
     let a = c.args in
     a.h.units + bringing a.ops.now ≤ 16384
     )
-fits c = omega (arith, c.if-new-h.false, c.total-new.ensures, (sound-parts _ _ _ c.requires.0).used)
+fits c = omega (arith, c.if-new-from.false, c.from.ensures, c.total-new.ensures, (sound-parts _ _ _ c.requires.0).used)
 
 -- carried out, or refused for its items
 granted_as : (s : Start) → (
@@ -69,25 +69,25 @@ returns-in_err-fault c =
 pub overflow_sub-h : goal.overflow_sub-h
 overflow_sub-h c = (sound-parts _ _ _ c.requires.0).used
 
-pub returns-then-new-h : goal.returns-then-new-h
-returns-then-new-h c =
-    let s = (goal.at.returns-then-new-h c).Start in
+pub returns-then-new-from : goal.returns-then-new-from
+returns-then-new-from c =
+    let s = (goal.at.returns-then-new-from c).Start in
     let a = s.args in
-    let over : 16384 < length (take a.h.units a.units.now ++ new_units (map (op_of a.chunk.now) a.ops.now)) = omega (arith, c.if-new-h.true, c.total-new.ensures, delta-long a.chunk.now a.ops.now _ _ _ s.requires.0 s.requires.3) in
+    let over : 16384 < length (take a.h.units a.units.now ++ new_units (map (op_of a.chunk.now) a.ops.now)) = omega (arith, c.if-new-from.true, c.from.ensures, c.total-new.ensures, delta-long a.chunk.now a.ops.now _ _ _ s.requires.0 s.requires.3) in
     carry-crowded (asked s) _ _ _ s.requires.0 _ refl _ c.in_ok-fault.ensures refl over
 
 pub carry_all-requires : goal.carry_all-requires
-carry_all-requires c = (sound-loads _ _ _ c.requires.0, fits (goal.at.carry_all-requires c).Else-new-h)
+carry_all-requires c = (sound-loads _ _ _ c.requires.0, fits (goal.at.carry_all-requires c).Else-new-from)
 
 pub returns-in_err-head : goal.returns-in_err-head
 returns-in_err-head c =
     let p = err_from_is_err_and c.from_residual-in_err-head.result c.from_residual-in_err-head.ensures.1 in
     rw (p.1, p.2)
-    (granted_as (goal.at.returns-in_err-head c).Start _ c.total-new.ensures (fits (goal.at.returns-in_err-head c).Else-new-h) c.in_ok-fault.ensures _ c.in_err-head.ensures _ (rw (ne_eqb _ 0 (number-some c.in_err-head.field-0.0))))
+    (granted_as (goal.at.returns-in_err-head c).Start _ c.total-new.ensures (fits (goal.at.returns-in_err-head c).Else-new-from) c.in_ok-fault.ensures _ c.in_err-head.ensures _ (rw (ne_eqb _ 0 (number-some c.in_err-head.field-0.0))))
 
 pub append_all-requires : goal.append_all-requires
-append_all-requires c = ((sound-parts _ _ _ c.requires.0).room, c.requires.3, fits (goal.at.append_all-requires c).Else-new-h)
+append_all-requires c = ((sound-parts _ _ _ c.requires.0).room, c.requires.3, fits (goal.at.append_all-requires c).Else-new-from)
 
 pub returns : goal.returns
 returns c =
-    granted_as (goal.at.returns c).Start _ c.total-new.ensures (fits (goal.at.returns c).Else-new-h) c.in_ok-fault.ensures _ c.in_ok-head.ensures _ c.append_all.ensures
+    granted_as (goal.at.returns c).Start _ c.total-new.ensures (fits (goal.at.returns c).Else-new-from) c.in_ok-fault.ensures _ c.in_ok-head.ensures _ c.append_all.ensures

@@ -1,23 +1,12 @@
 -- `deltas::checks::total` meets its contract: the sum so far and what is left make the whole. Assumes nothing.
-use Prim.Native.Nat.{ℕ, suc, ◌+◌}
+use Prim.Native.Nat.{ℕ, ◌+◌}
 use native.Mathlib.Omega.{arith}
-use mathlib.Core.Path.{◌≡◌, ap, ◌∙◌}
-use mathlib.Core.List.{◌∷◌}
-use lib.ListN.{get_or, drop}
-use lib.Seq.{drop-cons}
+use mathlib.Core.Path.{ap, ◌∙◌}
+use lib.ListN.{drop}
 use Rattle.carrying.specs.Turns.{bringing}
-use Rattle.carrying.proofs.Carrying.{unread}
+use Rattle.carrying.proofs.Carrying.{next-is}
 use Rattle.deltas.proofs.Reading.{total-next, total_done}
 use Rattle.deltas.proofs.checks.total.Goals as goal
-use Rattle.deltas.proofs.checks.total.Goals.{In-loop-d}
-
--- the operation that is next
-next-is : (c : In-loop-d) → (
-    let ds = c.args.ops.now in
-    let i = c.loop-d.d-index in
-    drop i ds ≡ get_or ds i unread ∷ drop (suc i) ds
-    )
-next-is c = drop-cons c.args.ops.now _ unread c.loop-d-test.true
 
 pub loop-d-init : goal.loop-d-init
 loop-d-init c = (omega arith, omega arith)
@@ -28,7 +17,7 @@ overflow_add-sum c = omega (arith, c.loop-d.invariant.1, c.loop-d-test.true, c.r
 pub loop-d-preserved : goal.loop-d-preserved
 loop-d-preserved c = (
   ap (λ (k : ℕ). c.loop-d.sum + k + bringing (drop (c.loop-d.d-index + 1) c.args.ops.now)) (c.from-sum.ensures ∙ c.brought.ensures)
-      ∙ total-next c.args.ops.now c.loop-d.d-index _ (next-is (goal.at.loop-d-preserved c).In-loop-d) _ c.loop-d.invariant.0,
+      ∙ total-next c.args.ops.now c.loop-d.d-index _ (next-is _ _ c.loop-d-test.true) _ c.loop-d.invariant.0,
   omega (arith, c.loop-d.invariant.1, c.brought.type_inv, c.from-sum.ensures),
 )
 

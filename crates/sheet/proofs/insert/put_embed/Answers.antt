@@ -1,11 +1,10 @@
 -- `sheet::insert::put_embed` meets its contract: each way by its law. Assumes nothing.
 use native.Mathlib.Omega.{arith}
 use mathlib.Core.Path.{◌≡◌, refl, sym, subst⁻¹, ◌∙◌}
-use mathlib.Core.Bool.{true}
 use Rattle.std.proofs.lemmas.Result.{err_from_is_err_and}
 use Rattle.rules.specs.Calls.{Call}
 use Rattle.rules.specs.Rulings.{ruling}
-use Rattle.layout.specs.Memory.{model_of, sound_of}
+use Rattle.layout.specs.Memory.{model_of}
 use Rattle.changes.specs.Changes.{Ready}
 use Rattle.sheet.specs.Inserts.{embed_call}
 use Rattle.changes.proofs.Works.{granted_by}
@@ -13,7 +12,7 @@ use Rattle.changes.proofs.Sounds.{sound-loads}
 use Rattle.changes.proofs.Calls.{carry_unsound, carry-fault, carry-edited}
 use Rattle.sheet.proofs.Inserts.{embed_ruled, embed-ruled, embed_ready}
 use Rattle.sheet.proofs.insert.put_embed.Goals as goal
-use Rattle.sheet.proofs.insert.put_embed.Goals.{Else-not-sound, Start}
+use Rattle.sheet.proofs.insert.put_embed.Goals.{Start}
 
 -- the call that is asked for, and its ruling
 abbrev asked : Start → Call
@@ -25,12 +24,6 @@ ruled : (s : Start) → (
     )
 ruled s = embed-ruled s.args.index s.args.number s.args.attrs _
 
-sound-here : (c : Else-not-sound) → (
-    let a = c.args in
-    sound_of a.h a.items.now a.units.now ≡ true
-    )
-sound-here c = sym c.sound.ensures ∙ c.if-not-sound.false
-
 pub returns-then-not-sound : goal.returns-then-not-sound
 returns-then-not-sound c = carry_unsound (asked (goal.at.returns-then-not-sound c).Start) _ _ _ (sym c.sound.ensures ∙ c.if-not-sound.true)
 
@@ -38,12 +31,12 @@ pub returns-in_err-embed_fault : goal.returns-in_err-embed_fault
 returns-in_err-embed_fault c =
     let s = (goal.at.returns-in_err-embed_fault c).Start in
     let p = err_from_is_err_and c.from_residual.result c.from_residual.ensures.1 in
-    rw (p.1, p.2) (carry-fault (asked s) _ _ _ (sound-here (goal.at.returns-in_err-embed_fault c).Else-not-sound) _ (ruled s) _ c.in_err-embed_fault.ensures)
+    rw (p.1, p.2) (carry-fault (asked s) _ _ _ (sym c.sound.ensures ∙ c.if-not-sound.false) _ (ruled s) _ c.in_err-embed_fault.ensures)
 
 pub edit-requires : goal.edit-requires
-edit-requires c = (sound-loads _ _ _ (sound-here (goal.at.edit-requires c).Else-not-sound), subst⁻¹ Ready c.embed_change-change.ensures (embed_ready _ c.args.attrs (omega (arith, c.ranges.number))))
+edit-requires c = (sound-loads _ _ _ (sym c.sound.ensures ∙ c.if-not-sound.false), subst⁻¹ Ready c.with_or_plain-change.ensures (embed_ready _ c.args.attrs (omega (arith, c.ranges.number))))
 
 pub returns : goal.returns
 returns c =
-    carry-edited (asked (goal.at.returns c).Start) _ _ _ (sound-here (goal.at.returns c).Else-not-sound) _ (ruled (goal.at.returns c).Start) _ c.in_ok-embed_fault.ensures refl refl _
-    (granted_by _ _ _ _ _ c.edit.ensures c.embed_change-change.ensures)
+    carry-edited (asked (goal.at.returns c).Start) _ _ _ (sym c.sound.ensures ∙ c.if-not-sound.false) _ (ruled (goal.at.returns c).Start) _ c.in_ok-embed_fault.ensures refl refl _
+    (granted_by _ _ _ _ _ c.edit.ensures c.with_or_plain-change.ensures)

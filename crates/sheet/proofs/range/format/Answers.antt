@@ -1,24 +1,16 @@
 -- `sheet::range::format` meets its contract: each way by its law. Assumes nothing.
-use mathlib.Core.Path.{◌≡◌, refl, sym, ◌∙◌}
-use mathlib.Core.Bool.{true}
+use mathlib.Core.Path.{refl, sym, ◌∙◌}
 use Rattle.std.proofs.lemmas.Result.{err_from_is_err_and}
 use Rattle.attrs.specs.Packed.{says}
 use Rattle.rules.specs.Calls.{Call, format_range}
-use Rattle.layout.specs.Memory.{sound_of}
 use Rattle.changes.specs.Changes.{move_of}
 use Rattle.changes.proofs.Sounds.{sound-loads}
 use Rattle.changes.proofs.Calls.{carry_unsound, carry-fault, carry-edited}
 use Rattle.sheet.proofs.range.format.Goals as goal
-use Rattle.sheet.proofs.range.format.Goals.{Else-not-sound, Start}
+use Rattle.sheet.proofs.range.format.Goals.{Start}
 
 abbrev asked : Start → Call
 asked s = format_range s.args.index s.args.len (says s.args.attrs)
-
-sound-here : (c : Else-not-sound) → (
-    let a = c.args in
-    sound_of a.h a.items.now a.units.now ≡ true
-    )
-sound-here c = sym c.sound.ensures ∙ c.if-not-sound.false
 
 pub returns-then-not-sound : goal.returns-then-not-sound
 returns-then-not-sound c = carry_unsound (asked (goal.at.returns-then-not-sound c).Start) _ _ _ (sym c.sound.ensures ∙ c.if-not-sound.true)
@@ -26,11 +18,11 @@ returns-then-not-sound c = carry_unsound (asked (goal.at.returns-then-not-sound 
 pub returns-in_err-range_fault : goal.returns-in_err-range_fault
 returns-in_err-range_fault c =
     let p = err_from_is_err_and c.from_residual.result c.from_residual.ensures.1 in
-    rw (p.1, p.2) (carry-fault (asked (goal.at.returns-in_err-range_fault c).Start) _ _ _ (sound-here (goal.at.returns-in_err-range_fault c).Else-not-sound) _ refl _ c.in_err-range_fault.ensures)
+    rw (p.1, p.2) (carry-fault (asked (goal.at.returns-in_err-range_fault c).Start) _ _ _ (sym c.sound.ensures ∙ c.if-not-sound.false) _ refl _ c.in_err-range_fault.ensures)
 
 pub edit-requires : goal.edit-requires
-edit-requires c = (sound-loads _ _ _ (sound-here (goal.at.edit-requires c).Else-not-sound), tt)
+edit-requires c = (sound-loads _ _ _ (sym c.sound.ensures ∙ c.if-not-sound.false), tt)
 
 pub returns : goal.returns
 unfolding move_of
-returns c = carry-edited (asked (goal.at.returns c).Start) _ _ _ (sound-here (goal.at.returns c).Else-not-sound) _ refl _ c.in_ok-range_fault.ensures refl refl _ c.edit.ensures
+returns c = carry-edited (asked (goal.at.returns c).Start) _ _ _ (sym c.sound.ensures ∙ c.if-not-sound.false) _ refl _ c.in_ok-range_fault.ensures refl refl _ c.edit.ensures
