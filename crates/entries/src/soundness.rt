@@ -10,12 +10,12 @@ use crate::slots::{BYTES, SLOT, content, find, kind_at};
 fn fits(kind: u8, n: u8, first: u8) -> bool
     ensures { result ≡ fits_of kind n first }
 {
-    match Kind::of(kind) {
-        Some(Kind::Name) => n != 0 && n <= 32,
-        Some(Kind::Bool) => n == 1 && first <= 1,
-        Some(Kind::Int) => n == 8,
-        Some(Kind::String) => n <= 32,
-        None => false,
+    match Kind::try_from(kind) {
+        Ok(Kind::Name) => n != 0 && n <= 32,
+        Ok(Kind::Bool) => n == 1 && first <= 1,
+        Ok(Kind::Int) => n == 8,
+        Ok(Kind::String) => n <= 32,
+        Err(_) => false,
     }
 }
 

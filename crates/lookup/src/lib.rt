@@ -37,7 +37,7 @@ fn value_entry(h: TableHead, table: &[u8], v: u32) -> Option<(Kind, &[u8])>
         return None;
     }
     let slot = 15 + v as usize;
-    let kind = Kind::of(kind_at(slots, slot))?;
+    let kind = Kind::try_from(kind_at(slots, slot)).ok()?;
     Some((kind, content(slots, slot)))
 }
 
