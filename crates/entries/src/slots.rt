@@ -1,6 +1,6 @@
 // Slots of the lent bytes: an entry is read, compared, looked for and written here, for names and values alike.
 // A kind is a byte here, since an unsound table may hold bytes that are no kind.
-ghost use Rattle.std.specs.Prelude.{◌≡◌, ◌∷◌, ◌+◌, ◌*◌, ◌<◌, ◌≤◌, min, length, MatchOption};
+ghost use Rattle.std.specs.Prelude.{◌≡◌, ◌∷◌, ◌+◌, ◌<◌, ◌≤◌, length, MatchOption};
 ghost use Rattle.entries.specs.Entry.{kind_at, content_at, entry_at, entries, same_bytes, seek, put_at};
 
 pub const SLOT: usize = 34;

@@ -1,5 +1,5 @@
 // Whether the slots in use are in order: kinds and lengths in range, no two entries equal.
-ghost use Rattle.std.specs.Prelude.{◌≡◌, ◌+◌, ◌*◌, ◌<◌, ◌≤◌, length};
+ghost use Rattle.std.specs.Prelude.{◌≡◌, ◌+◌, ◌<◌, ◌≤◌};
 ghost use Rattle.entries.specs.Entry.{entry_at, entries, among};
 ghost use Rattle.entries.specs.Order.{fits as fits_of, fits_at, all_fit, distinct as distinct_of, shelf_sound};
 

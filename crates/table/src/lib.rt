@@ -1,7 +1,7 @@
 // Names and values numbered in the order of first asking, in bytes that the caller lends.
 #![tactic(auto)]
 
-ghost use Rattle.std.specs.Prelude.{◌≡◌, ◌+◌, ◌<◌, ◌≤◌, true, false, length, MatchOption};
+ghost use Rattle.std.specs.Prelude.{◌≡◌, ◌+◌, ◌≤◌, true, false, MatchOption};
 ghost use Rattle.entries.specs.Entry.{entries};
 ghost use Rattle.entries.specs.Kind.{byte_of};
 ghost use Rattle.table.specs.Value.{bool as bool_value, int as int_value, string as string_value};
