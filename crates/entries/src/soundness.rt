@@ -30,6 +30,7 @@ fn slot_fits(table: &[u8; BYTES], slot: usize) -> bool
     is_name == (slot < 16) && fits(kind, table[at], table[at + 2])
 }
 
+// `all` in place of the loop was tried: the goal that what it tells of each slot makes up `all_fit` stayed open.
 fn all_fit(table: &[u8; BYTES], from: usize, count: usize) -> bool
     requires { from + count ≤ 271 }
     ensures { result ≡ all_fit table.now from count }
