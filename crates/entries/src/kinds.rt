@@ -1,5 +1,6 @@
 // The kinds of entries. A kind's number is the byte that stands for it in a slot.
 ghost use Rattle.std.specs.Prelude.{◌≡◌};
+ghost use Rattle.std.specs.Result.{result_ok};
 ghost use Rattle.entries.specs.Kind.{byte_of, kind_in};
 
 #[derive(Clone, Copy)]
@@ -10,17 +11,22 @@ pub enum Kind {
     String = 3,
 }
 
-impl Kind {
-    // The kind that a byte stands for, if it does for any.
-    pub fn of(byte: u8) -> Option<Kind>
-        ensures { result ≡ kind_in byte }
-    {
+// A byte that stands for no kind.
+#[derive(Clone, Copy)]
+pub struct UnknownKind;
+
+impl TryFrom<u8> for Kind {
+    type Error = UnknownKind;
+
+    ghost try_from_gives = { λ byte r. result_ok r ≡ kind_in byte };
+
+    fn try_from(byte: u8) -> Result<Kind, UnknownKind> {
         match byte {
-            0 => Some(Kind::Name),
-            1 => Some(Kind::Bool),
-            2 => Some(Kind::Int),
-            3 => Some(Kind::String),
-            _ => None,
+            0 => Ok(Kind::Name),
+            1 => Ok(Kind::Bool),
+            2 => Ok(Kind::Int),
+            3 => Ok(Kind::String),
+            _ => Err(UnknownKind),
         }
     }
 }

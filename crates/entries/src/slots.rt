@@ -1,6 +1,7 @@
 // Slots of the lent bytes: an entry is read, compared, looked for and written here, for names and values alike.
-// A kind is a byte here, since an unsound table may hold bytes that are no kind.
-ghost use Rattle.std.specs.Prelude.{◌≡◌, ◌∷◌, ◌+◌, ◌*◌, ◌<◌, ◌≤◌, min, length, MatchOption};
+// A kind is a byte here, since an unsound table may hold bytes that are no kind. The bounds of slots stand in each contract: a type
+// `Slot` with a ghost bound would have to be made anew, and proved, at each sum of a first slot and an index.
+ghost use Rattle.std.specs.Prelude.{◌≡◌, ◌∷◌, ◌+◌, ◌<◌, ◌≤◌, length, MatchOption};
 ghost use Rattle.entries.specs.Entry.{kind_at, content_at, entry_at, entries, same_bytes, seek, put_at};
 
 pub const SLOT: usize = 34;

@@ -1,5 +1,5 @@
 // Whether the slots in use are in order: kinds and lengths in range, no two entries equal.
-ghost use Rattle.std.specs.Prelude.{◌≡◌, ◌+◌, ◌*◌, ◌<◌, ◌≤◌, length};
+ghost use Rattle.std.specs.Prelude.{◌≡◌, ◌+◌, ◌<◌, ◌≤◌};
 ghost use Rattle.entries.specs.Entry.{entry_at, entries, among};
 ghost use Rattle.entries.specs.Order.{fits as fits_of, fits_at, all_fit, distinct as distinct_of, shelf_sound};
 
@@ -10,12 +10,12 @@ use crate::slots::{BYTES, SLOT, content, find, kind_at};
 fn fits(kind: u8, n: u8, first: u8) -> bool
     ensures { result ≡ fits_of kind n first }
 {
-    match Kind::of(kind) {
-        Some(Kind::Name) => n != 0 && n <= 32,
-        Some(Kind::Bool) => n == 1 && first <= 1,
-        Some(Kind::Int) => n == 8,
-        Some(Kind::String) => n <= 32,
-        None => false,
+    match Kind::try_from(kind) {
+        Ok(Kind::Name) => n != 0 && n <= 32,
+        Ok(Kind::Bool) => n == 1 && first <= 1,
+        Ok(Kind::Int) => n == 8,
+        Ok(Kind::String) => n <= 32,
+        Err(_) => false,
     }
 }
 
@@ -30,6 +30,7 @@ fn slot_fits(table: &[u8; BYTES], slot: usize) -> bool
     is_name == (slot < 16) && fits(kind, table[at], table[at + 2])
 }
 
+// `all` in place of the loop was tried: the goal that what it tells of each slot makes up `all_fit` stayed open.
 fn all_fit(table: &[u8; BYTES], from: usize, count: usize) -> bool
     requires { from + count ≤ 271 }
     ensures { result ≡ all_fit table.now from count }

@@ -1,4 +1,5 @@
-// What is carried by value, in lent numbers.
+// What is carried by value, in lent numbers. Functions and no `From`: types of other crates and arrays take none here.
+// The heads of sheet and table stay apart, since they are two types of different fields.
 ghost use Rattle.std.specs.Prelude.{◌≡◌};
 ghost use Rattle.std.specs.Result.{result_unwrap_or};
 ghost use Rattle.refusal.specs.Numbers.{refusal_in};

@@ -1,5 +1,5 @@
 // The table: its head in two lent numbers, its entries in lent bytes.
-ghost use Rattle.std.specs.Prelude.{◌≡◌, ◌≤◌, length};
+ghost use Rattle.std.specs.Prelude.{◌≡◌};
 ghost use Rattle.table.specs.Value.{bool as bool_value, int as int_value, string as string_value};
 ghost use Rattle.table.specs.Sound.{fresh_head, sound_of};
 ghost use Rattle.table.specs.Ask.{ask_name, ask_value, told, Gives};

@@ -97,6 +97,7 @@ pub extern "C" fn indovalump_event(
 {
     let h = head_of(head);
     let answer = events::event::event(h, items, units, ops, texts);
+    // Not by `settled`: the goal of the clause `answer` stayed open with an array that a closure makes.
     *counts = [0; 2];
     if let Ok(written) = answer {
         *counts = [written.ops, written.units];

@@ -10,7 +10,8 @@ use entries::kinds::Kind;
 use entries::slots::{BYTES, content, kind_at};
 use table::{TableHead, sound_slots};
 
-// What a value's number stands for. The bytes of a string are shown by `string_bytes`.
+// What a value's number stands for. A string is shown without its bytes, which `string_bytes` shows: `shown_of` and the two C calls
+// read the kind and the bytes apart.
 #[derive(Clone, Copy)]
 pub enum Shown {
     Bool(bool),
@@ -24,7 +25,7 @@ fn name_slots(h: TableHead, table: &[u8], n: u32) -> Option<&[u8; BYTES]>
     ensures { MatchOption result (given_name h table.now n ≡ false) (λ slots. (given_name h table.now n ≡ true) × (slots.now ≡ table.now)) }
 {
     let slots = sound_slots(h, table)?;
-    if n < h.names { Some(slots) } else { None }
+    (n < h.names).then_some(slots)
 }
 
 // The kind and content of a value, where its number is given out.
@@ -36,8 +37,8 @@ fn value_entry(h: TableHead, table: &[u8], v: u32) -> Option<(Kind, &[u8])>
     if v == 0 || v > h.values {
         return None;
     }
-    let slot = 15 + v as usize;
-    let kind = Kind::of(kind_at(slots, slot))?;
+    let slot = TableHead::NAMES - 1 + v as usize;
+    let kind = Kind::try_from(kind_at(slots, slot)).ok()?;
     Some((kind, content(slots, slot)))
 }
 

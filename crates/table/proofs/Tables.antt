@@ -7,6 +7,8 @@ use mathlib.Core.List.{List}
 use lib.ListN.{length}
 use lib.Dec.{eqb, leb}
 use borrow.Author.Tests.{eqb-true, leb-true, eq-eqb, le-leb}
+use Rattle.std.specs.Bool.{then_some}
+use Rattle.std.specs.Prelude.{MatchOption}
 use Rattle.table.specs.declared.TableHead.{TableHead}
 use Rattle.table.specs.declared.Shelf.{Shelf}
 use Rattle.entries.specs.Entry.{entries}
@@ -73,3 +75,8 @@ shelf-room h m k p s e = rw e (go (eqb k 0))
     go : (b : Bool) → Room (cond b (name_shelf h) (value_shelf h))
     go true = record { inside = omega arith; few = p.of-names.few; first = omega arith }
     go false = record { inside = omega arith; few = p.of_values.few; first = omega arith }
+
+-- what is shown only where a check holds
+pub shown_where : {X P : Type 0} (Q : X → Type 0) (b : Bool) (x : X) → (b ≡ false → P) → (b ≡ true → Q x) → MatchOption (then_some b x) P Q
+shown_where Q true x p q = q refl
+shown_where Q false x p q = p refl

@@ -1,7 +1,7 @@
 // Names and values numbered in the order of first asking, in bytes that the caller lends.
 #![tactic(auto)]
 
-ghost use Rattle.std.specs.Prelude.{◌≡◌, ◌+◌, ◌<◌, ◌≤◌, true, false, length, MatchOption};
+ghost use Rattle.std.specs.Prelude.{◌≡◌, ◌+◌, ◌≤◌, true, false, MatchOption};
 ghost use Rattle.entries.specs.Entry.{entries};
 ghost use Rattle.entries.specs.Kind.{byte_of};
 ghost use Rattle.table.specs.Value.{bool as bool_value, int as int_value, string as string_value};
@@ -108,11 +108,7 @@ pub fn sound_slots(h: TableHead, table: &[u8]) -> Option<&[u8; BYTES]>
     ensures { MatchOption result (sound_of h table.now ≡ false) (λ slots. (sound_of h table.now ≡ true) × (slots.now ≡ table.now)) }
 {
     let slots = table.as_array()?;
-    if in_order(h, slots) {
-        Some(slots)
-    } else {
-        None
-    }
+    in_order(h, slots).then_some(slots)
 }
 
 pub fn sound(h: TableHead, table: &[u8]) -> bool
@@ -150,6 +146,7 @@ fn decide(slots: &[u8; BYTES], s: Shelf, kind: Kind, bytes: &[u8]) -> Result<Opt
 fn ask(h: TableHead, table: &mut [u8], kind: Kind, bytes: &[u8]) -> Result<Asked, Refusal>
     ensures { Gives (ask_of h table.old (byte_of kind) bytes.now) (told h result) table.new }
 {
+    // `ok_or` with `?` was tried here: the goals that ask what lies in the slots stayed open.
     let Some(slots) = table.as_mut_array() else {
         return Err(Refusal::Broken);
     };
