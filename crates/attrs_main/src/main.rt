@@ -9,7 +9,8 @@ ghost use Rattle.attrs_main.specs.Sum.{sum_of};
 use attrs::Attrs;
 use sets::KeyWalk;
 
-// A walk over the keys from outside.
+// A walk over the keys from outside. A loop: `sum` on a chain asks for a bound on the items of every run of the walk, which was
+// tried and did not close.
 fn total(a: Attrs) -> u32
     ensures { result ≡ sum_of (env_of a) (present keys (says a)) }
 {

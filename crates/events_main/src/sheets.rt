@@ -1,9 +1,10 @@
 // Small sheets, and what is written of their events.
-ghost use Rattle.std.specs.Prelude.{◌≤◌, length};
+ghost use Rattle.std.specs.Prelude.{◌<◌, ◌≤◌, ◌^◌, length};
 
 use events::event::{Written, event};
 use layout::head::Head;
 use layout::word::{Content, Item};
+use std::fmt::Display;
 use std::io;
 
 // A sheet of up to six items, by their words, over up to four units.
@@ -23,6 +24,7 @@ pub enum State {
     Passing,
 }
 
+// `word`, `text` and `mark` stand in other programs too: to share these few lines would need a crate of its own.
 fn word(next: u32, content: Content, state: State) -> u64 {
     let dead = matches!(state, State::Deleted | State::Passing);
     layout::word::pack(Item {
@@ -139,23 +141,14 @@ pub fn turned() -> Sheet {
     )
 }
 
-// The numbers up to the one behind the first `n`, eight to a line.
-fn shown_numbers(rt: &impl Print, ops: &[u32], n: usize) -> io::Result<()> {
-    for (i, x) in ops.iter().enumerate() {
-        if i <= n {
-            print!(rt; "{x:05} ")?;
-            if i % 8 == 7 {
-                println!(rt;)?;
-            }
-        }
-    }
-    println!(rt;)
-}
-
-fn shown_units(rt: &impl Print, out: &[u16], n: usize) -> io::Result<()> {
-    for (i, x) in out.iter().enumerate() {
-        if i <= n {
-            print!(rt; "{x:05} ")?;
+// The first `n` and the one behind them, eight to a line.
+fn shown<T: Display>(rt: &impl Print, list: &[T], n: usize) -> io::Result<()>
+    requires { n < 2 ^ 63 }
+{
+    for (i, x) in list.iter().take(n + 1).enumerate() {
+        print!(rt; "{x:05} ")?;
+        if i % 8 == 7 {
+            println!(rt;)?;
         }
     }
     println!(rt;)
@@ -179,6 +172,6 @@ pub fn tried(rt: &impl Print, label: &str, s: Sheet, room: usize, text: usize) -
         "{label}: {refusal:05} {:05} {:05} ",
         wrote.ops, wrote.units
     )?;
-    shown_numbers(rt, &ops, wrote.ops as usize * encoding::WORDS)?;
-    shown_units(rt, &out, wrote.units as usize)
+    shown(rt, &ops, wrote.ops as usize * encoding::WORDS)?;
+    shown(rt, &out, wrote.units as usize)
 }

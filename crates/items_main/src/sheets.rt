@@ -14,13 +14,21 @@ pub struct Small {
     pub units: [u16; 4],
 }
 
+// The highest embed, live, in the middle of a sheet.
+pub const EMBED: Item = Item {
+    next: 2,
+    content: Content::Embed(0xFFFF_FFFF),
+    dead: false,
+    added: false,
+    gone: false,
+};
+
+// `head`, `text` and `mark` stand in other programs too: to share these few lines would need a crate of its own.
 fn live(next: u32, content: Content) -> u64 {
     pack(Item {
         next,
         content,
-        dead: false,
-        added: false,
-        gone: false,
+        ..EMBED
     })
 }
 
@@ -28,18 +36,27 @@ pub fn text(next: u32, start: u32, len: u32) -> u64 {
     live(next, Content::Text { start, len })
 }
 
+pub fn last(start: u32, len: u32) -> u64 {
+    text(Head::END, start, len)
+}
+
 pub fn mark(next: u32, key: u32, value: u32) -> u64 {
     live(next, Content::Mark { key, value })
 }
 
-pub fn embed(next: u32, flags: u32) -> u64 {
-    pack(Item {
-        next,
-        content: Content::Embed(0xFFFF_FFFF),
-        dead: flags / 4 % 2 == 1,
-        added: flags / 2 % 2 == 1,
-        gone: flags % 2 == 1,
-    })
+pub fn dead(item: Item) -> Item {
+    Item { dead: true, ..item }
+}
+
+pub fn added(item: Item) -> Item {
+    Item {
+        added: true,
+        ..item
+    }
+}
+
+pub fn gone(item: Item) -> Item {
+    Item { gone: true, ..item }
 }
 
 pub fn head(first: u32, items: u32, units: u32) -> Head {
@@ -56,7 +73,7 @@ pub fn plain() -> Small {
         head: head(0, 3, 4),
         a: text(1, 0, 2),
         b: mark(2, 15, 255),
-        c: text(Head::END, 2, 2),
+        c: last(2, 2),
         units: [0x61, 0x62, 0x63, 0x64],
     }
 }

@@ -1,8 +1,11 @@
 // The sheets: each is sound, or broken in one way.
 ghost use Rattle.std.specs.Prelude.{◌≤◌};
 
-use crate::sheets::{Small, embed, head, line, mark, plain, text, tried, units_of, words_of};
+use crate::sheets::{
+    EMBED, Small, added, dead, gone, head, last, line, mark, plain, text, tried, units_of, words_of,
+};
 use layout::head::Head;
+use layout::word::{Item, pack};
 use soundness::sound;
 use std::io;
 
@@ -52,18 +55,18 @@ fn linked(rt: &impl Print, label: &str, first: u32, a: u32, b: u32, c: u32) -> i
 }
 
 pub fn links(rt: &impl Print) -> io::Result<()> {
-    linked(rt, "in order", 0, 1, 2, 4095)?;
-    linked(rt, "backwards", 2, 4095, 0, 1)?;
+    linked(rt, "in order", 0, 1, 2, Head::END)?;
+    linked(rt, "backwards", 2, Head::END, 0, 1)?;
     linked(rt, "a loop over all", 0, 1, 2, 0)?;
-    linked(rt, "a loop over two", 0, 1, 0, 4095)?;
-    linked(rt, "a loop over one", 0, 0, 2, 4095)?;
-    linked(rt, "two links to one item", 0, 2, 2, 4095)?;
-    linked(rt, "stops short", 0, 1, 4095, 4095)?;
+    linked(rt, "a loop over two", 0, 1, 0, Head::END)?;
+    linked(rt, "a loop over one", 0, 0, 2, Head::END)?;
+    linked(rt, "two links to one item", 0, 2, 2, Head::END)?;
+    linked(rt, "stops short", 0, 1, Head::END, Head::END)?;
     linked(rt, "an unused item", 0, 1, 2, 3)?;
-    linked(rt, "an unused item within", 0, 1, 3, 4095)?;
+    linked(rt, "an unused item within", 0, 1, 3, Head::END)?;
     linked(rt, "ends by another number", 0, 1, 2, 4094)?;
-    linked(rt, "starts out", 3, 1, 2, 4095)?;
-    linked(rt, "starts at the end", 4095, 1, 2, 4095)
+    linked(rt, "starts out", 3, 1, 2, Head::END)?;
+    linked(rt, "starts at the end", Head::END, 1, 2, Head::END)
 }
 
 fn pieced(rt: &impl Print, label: &str, used: u32, a: u64, c: u64) -> io::Result<()> {
@@ -81,37 +84,19 @@ fn pieced(rt: &impl Print, label: &str, used: u32, a: u64, c: u64) -> io::Result
 }
 
 pub fn pieces(rt: &impl Print) -> io::Result<()> {
-    pieced(
-        rt,
-        "pieces that overlap",
-        4,
-        text(1, 0, 2),
-        text(4095, 1, 2),
-    )?;
-    pieced(
-        rt,
-        "past the used units",
-        4,
-        text(1, 0, 2),
-        text(4095, 3, 2),
-    )?;
-    pieced(
-        rt,
-        "starts at the used units",
-        4,
-        text(1, 0, 3),
-        text(4095, 4, 1),
-    )?;
+    pieced(rt, "pieces that overlap", 4, text(1, 0, 2), last(1, 2))?;
+    pieced(rt, "past the used units", 4, text(1, 0, 2), last(3, 2))?;
+    pieced(rt, "starts at the used units", 4, text(1, 0, 3), last(4, 1))?;
     pieced(
         rt,
         "past the buffer",
         16384,
         text(1, 0, 2),
-        text(4095, 16383, 16382),
+        last(16383, 16382),
     )?;
-    pieced(rt, "an empty piece", 2, text(1, 0, 2), text(4095, 2, 0))?;
-    pieced(rt, "one unit too few", 4, text(1, 0, 2), text(4095, 2, 1))?;
-    pieced(rt, "one unit too many", 4, text(1, 0, 3), text(4095, 2, 2))
+    pieced(rt, "an empty piece", 2, text(1, 0, 2), last(2, 0))?;
+    pieced(rt, "one unit too few", 4, text(1, 0, 2), last(2, 1))?;
+    pieced(rt, "one unit too many", 4, text(1, 0, 3), last(2, 2))
 }
 
 fn over(rt: &impl Print, label: &str, units: [u16; 4]) -> io::Result<()> {
@@ -132,7 +117,7 @@ fn worded(rt: &impl Print, label: &str, b: u64) -> io::Result<()> {
 }
 
 pub fn words(rt: &impl Print) -> io::Result<()> {
-    worded(rt, "the highest embed", embed(2, 0))?;
+    worded(rt, "the highest embed", pack(EMBED))?;
     worded(rt, "key 0, null", mark(2, 0, 0))?;
     worded(rt, "value 256", mark(2, 15, 256))?;
     worded(rt, "the lowest free bit", mark(2, 15, 255) | 1 << 49)?;
@@ -140,24 +125,28 @@ pub fn words(rt: &impl Print) -> io::Result<()> {
     worded(rt, "kind 3", mark(2, 15, 255) | 1 << 12)
 }
 
-// Deleted, added, "deleted now", as a number of three bits.
+fn flagged(rt: &impl Print, label: &str, item: Item) -> io::Result<()> {
+    worded(rt, label, pack(item))
+}
+
 pub fn flags(rt: &impl Print) -> io::Result<()> {
-    worded(rt, "live", embed(2, 0))?;
-    worded(rt, "live, deleted now", embed(2, 1))?;
-    worded(rt, "added", embed(2, 2))?;
-    worded(rt, "added, live, deleted now", embed(2, 3))?;
-    worded(rt, "deleted", embed(2, 4))?;
-    worded(rt, "deleted now", embed(2, 5))?;
-    worded(rt, "added, deleted", embed(2, 6))?;
-    worded(rt, "added, deleted now", embed(2, 7))
+    flagged(rt, "live", EMBED)?;
+    flagged(rt, "live, deleted now", gone(EMBED))?;
+    flagged(rt, "added", added(EMBED))?;
+    flagged(rt, "added, live, deleted now", added(gone(EMBED)))?;
+    flagged(rt, "deleted", dead(EMBED))?;
+    flagged(rt, "deleted now", dead(gone(EMBED)))?;
+    flagged(rt, "added, deleted", dead(added(EMBED)))?;
+    flagged(rt, "added, deleted now", dead(added(gone(EMBED))))
 }
 
 // Every item in use, the links from the highest number down.
 fn crowd() -> [u64; 2048] {
     let mut items = [0u64; 2048];
     let mut next = Head::END;
-    for i in 0..2048 {
-        items[i as usize] = text(next, i, 1);
+    for (i, word) in items.iter_mut().enumerate() {
+        let i = i as u32;
+        *word = text(next, i, 1);
         next = i;
     }
     items
@@ -204,7 +193,7 @@ fn read(rt: &impl Print, h: Head, items: &[u64], units: &[u16]) -> io::Result<()
     Ok(())
 }
 
-// .. then begin's answer, and whether item 1 stays as it is.
+// What is read, then begin's answer, and whether item 1 stays as it is.
 fn called(rt: &impl Print, label: &str, s: Small) -> io::Result<()> {
     let mut items = words_of(s);
     let units = units_of(s);
@@ -222,15 +211,15 @@ fn called(rt: &impl Print, label: &str, s: Small) -> io::Result<()> {
     line(rt, "", items[1] == s.b)
 }
 
-fn middle(rt: &impl Print, label: &str, flags: u32) -> io::Result<()> {
-    let b = embed(2, flags);
+fn middle(rt: &impl Print, label: &str, item: Item) -> io::Result<()> {
+    let b = pack(item);
     called(rt, label, Small { b, ..plain() })
 }
 
 pub fn calls(rt: &impl Print) -> io::Result<()> {
     called(rt, "plain", plain())?;
-    middle(rt, "added", 2)?;
-    middle(rt, "deleted now", 5)?;
-    middle(rt, "deleted before", 4)?;
-    middle(rt, "broken", 6)
+    middle(rt, "added", added(EMBED))?;
+    middle(rt, "deleted now", dead(gone(EMBED)))?;
+    middle(rt, "deleted before", dead(EMBED))?;
+    middle(rt, "broken", dead(added(EMBED)))
 }

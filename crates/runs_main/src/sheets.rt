@@ -6,6 +6,7 @@ use refusal::{Refusal, number};
 use runs::calls::{count_runs, run_at};
 use std::io;
 
+// `head`, `word`, `text` and `mark` stand in other programs too: to share these few lines would need a crate of its own.
 fn word(next: u32, content: Content, dead: bool) -> u64 {
     pack(Item {
         next,

@@ -104,8 +104,9 @@ pub fn broken(rt: &impl Print) -> io::Result<()> {
 
 fn crowd() -> [u64; 2048] {
     let mut items = [0u64; 2048];
-    for i in 0..2047u32 {
-        items[i as usize] = embed(i + 1, i);
+    for (i, word) in items.iter_mut().enumerate() {
+        let i = i as u32;
+        *word = embed(i + 1, i);
     }
     items[2047] = embed(Head::END, 2047);
     items
@@ -142,9 +143,8 @@ fn copied(
     items: &[u64],
     units: &[u16],
     index: u32,
-    out: [u16; 4],
+    mut lent: [u16; 4],
 ) -> io::Result<[u16; 4]> {
-    let mut lent = out;
     answer(rt, text_of_range(h, items, units, index, 9, &mut lent))?;
     for unit in lent {
         print!(rt; "{unit:05} ")?;

@@ -2,6 +2,7 @@
 // index split a pair. Then three lines over eight units: kinds, high ones, low ones.
 #![tactic(auto)]
 
+use std::fmt::Display;
 use std::io;
 use units::Kind;
 
@@ -25,19 +26,19 @@ const LIMITS: [u16; 8] = [
     0x0000, 0xD7FF, 0xD800, 0xDBFF, 0xDC00, 0xDFFF, 0xE000, 0xFFFF,
 ];
 
-fn limits(rt: &impl Print) -> io::Result<()> {
+fn row<D: Display + Drop, F: Fn(u16) -> D>(rt: &impl Print, shown: F) -> io::Result<()>
+    requires { F.IsAlwaysCallable shown }
+{
     for unit in LIMITS {
-        print!(rt; "{}", letter(Kind::from(unit)))?;
-    }
-    println!(rt;)?;
-    for unit in LIMITS {
-        print!(rt; "{}", u8::from(units::is_high(unit)))?;
-    }
-    println!(rt;)?;
-    for unit in LIMITS {
-        print!(rt; "{}", u8::from(units::is_low(unit)))?;
+        print!(rt; "{}", shown(unit))?;
     }
     println!(rt;)
+}
+
+fn limits(rt: &impl Print) -> io::Result<()> {
+    row(rt, |unit| letter(Kind::from(unit)))?;
+    row(rt, |unit| u8::from(units::is_high(unit)))?;
+    row(rt, |unit| u8::from(units::is_low(unit)))
 }
 
 fn main(rt: HostRuntime) -> io::Result<()> {
