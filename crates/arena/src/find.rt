@@ -14,7 +14,7 @@ pub fn find_position(h: Head, items: &mut [u64], index: u32) -> At
 {
     let mut p = Place::start(h);
     let mut rest = index;
-    // The count is the place's own, which callers read.
+    // The count is the place's own, which callers read: a `for` would count beside it, no plainer.
     while p.todo > 0 {
         if rest == 0 {
             break;

@@ -13,7 +13,7 @@ pub mod writes; // what is written into it
 pub mod copies; // from a sheet into it, and back
 pub mod find; // the place at an index
 
-// A place between two items: their numbers (the end link where there is none), how many items stand right of it,
+// A place between two items: their numbers, as nothing is allocated (the end link where there is none), how many items stand right of it,
 // and what is in force there.
 #[derive(Clone, Copy)]
 pub struct Place {
@@ -47,8 +47,8 @@ impl Place {
         }
     }
 
-    // Behind the item right of the place, which is this one. Its set is touched at a live mark alone: a walk that hands whole
-    // places from turn to turn takes more than twice as long.
+    // Behind the item right of the place, which is this one. Its set is touched at a live mark alone: the walk to an index, which
+    // may pass every item, takes more than twice as long where it hands whole places from turn to turn.
     #[tactic(auto, unfolding(crate::specs::Places::passed_force, layout::specs::Force::mark_on))]
     fn pass(&mut self, it: Item)
         requires { 0 < self.old.todo }
@@ -64,6 +64,8 @@ impl Place {
 }
 
 // A place reached, and the head that goes with it.
+// That a place stands in a buffer under a head (`Standing`) is said where it is used: the buffer is lent to be written, and no type
+// can hold a fact about it meanwhile.
 #[derive(Clone, Copy)]
 pub struct At {
     pub head: Head,

@@ -33,7 +33,8 @@ pub enum Turn {
     Starts(Option<Run>),
 }
 
-// The event goes from before to now; what undoes it goes back. Nothing else looks at the flags.
+// The event goes from before to now; what undoes it goes back: `back` stands in the contracts (`sight_of`, `given_by`). Nothing else
+// looks at the flags.
 pub fn seen_by(it: Item, back: bool) -> Sight
     ensures { result ≡ sight_of back (flags_of it.dead it.added it.gone) }
 {

@@ -8,7 +8,8 @@ ghost use Rattle.attrs.specs.Packed.{says, env_of, packed, onto, with_at, update
 use refusal::Refusal;
 use sets::{KeyWalk, bit_at, bit_of, set_bit};
 
-// A key is there where its bit of the mask is set. The byte of an absent key is never read.
+// A key is there where its bit of the mask is set. The byte of an absent key is never read. A mask and sixteen values: the C interface
+// lends a set so.
 #[derive(Clone, Copy)]
 pub struct Attrs {
     pub mask: u16,
@@ -35,7 +36,7 @@ impl Attrs {
         key < Attrs::KEYS && bit_at(self.mask, key) == 1
     }
 
-    // The value, 0 where the key is absent or null.
+    // The value, 0 where the key is absent or null: in force null is none, and none is 0 (`env_of`).
     pub fn get(self, key: u32) -> u32
         ensures { Got self key result }
     {

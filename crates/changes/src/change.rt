@@ -16,6 +16,7 @@ use layout::head::Head;
 use layout::word::Content;
 use removal::remove_here;
 
+// The definition `move_of` gives the rule of each case, and the edits of this crate's must-fail turn one: so a case, and no closure.
 #[derive(Clone, Copy)]
 pub enum Change {
     PlainText { start: u32, len: u32 },

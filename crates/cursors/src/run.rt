@@ -5,7 +5,8 @@ ghost use Rattle.cursors.specs.Records.{blank};
 use attrs::Attrs;
 
 // `start` and `len` count visible units. `number` is the embed's, 0 for a text: `Listed` of `demands` reads the two apart.
-// `attrs` holds what is in force and not null, and `count` is how many keys that are.
+// `attrs` holds what is in force and not null, and `count` is how many keys that are
+// (`record_of`).
 #[derive(Clone, Copy)]
 pub struct Run {
     pub embed: bool,

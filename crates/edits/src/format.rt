@@ -13,7 +13,7 @@ use layout::head::Head;
 use layout::word::{Content, Item, is_mark, unpack, width};
 use marks::{Opened, insert_attributes, insert_negated_attributes, minimize_attr_changes};
 
-// What the walk does with the item right of it.
+// What the walk does with the item right of it. A closure for each would be no plainer: each needs all that the walk has.
 #[derive(Clone, Copy)]
 enum Turn {
     // The walk ends before it.
@@ -87,7 +87,7 @@ fn walk(h: Head, items: &mut [u64], p: Place, len: u32, attrs: Attrs, remembered
     let mut at = p;
     let mut left = len;
     let mut rest = remembered;
-    // The count is the place's own, which callers read.
+    // The count is the place's own, which callers read: a `for` would count beside it, no plainer.
     while at.todo > 0 {
         let w = items[at.right as usize];
         match turn_of(w, left, attrs, rest) {

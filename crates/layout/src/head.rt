@@ -1,4 +1,5 @@
-// What a sheet carries by value: its first item, and how many items and units are in use.
+// What a sheet carries by value: its first item, and how many items and units are in use. Its buffers are lent beside it and not held in
+// one struct with it: calls write the items, or both, or neither, so three structs would be no plainer than two slices.
 ghost use Rattle.std.specs.Prelude.{◌≡◌};
 ghost use Rattle.layout.specs.Heads.{fresh_head, grown_head};
 
@@ -26,7 +27,7 @@ impl Head {
         }
     }
 
-    // The one place where a changed head is built.
+    // The one place where a changed head is built, by the definition `grown_head`, which says of a head that it grew.
     pub fn grown(self, first: u32, items: u32, units: u32) -> Head
         ensures { result ≡ grown_head self first items units }
     {

@@ -29,7 +29,7 @@ pub fn minimize_attr_changes(h: Head, items: &[u64], p: Place, attrs: Attrs) -> 
     ensures { Carried (settling (says attrs)) h items.now p h items.now result }
 {
     let mut at = p;
-    // The count is the place's own, which callers read.
+    // The count is the place's own, which callers read: a `for` would count beside it, no plainer.
     while at.todo > 0 && passes(items[at.right as usize], attrs) {
         at = forward(items, at);
     }
@@ -90,7 +90,7 @@ fn drop_restored(h: Head, items: &[u64], p: Place, remembered: Attrs) -> Opened
 {
     let mut at = p;
     let mut left = remembered;
-    // The count is the place's own, which callers read.
+    // The count is the place's own, which callers read: a `for` would count beside it, no plainer.
     while at.todo > 0 && passes(items[at.right as usize], left) {
         left = dropped(items[at.right as usize], left);
         at = forward(items, at);

@@ -1,4 +1,5 @@
-// The refusals that only read. The sheet is sound.
+// The refusals that only read. The sheet is sound, which the caller has tested: a type that says so would hold the items that the edit
+// behind it writes.
 #![tactic(auto)]
 
 ghost use Rattle.std.specs.Prelude.{◌≡◌, true, cond, not};

@@ -24,7 +24,7 @@ fn delete_units(h: Head, items: &mut [u64], p: Place, len: u32) -> At
 {
     let mut at = p;
     let mut rest = len;
-    // The count is the place's own, which callers read.
+    // The count is the place's own, which callers read: a `for` would count beside it, no plainer.
     while at.todo > 0 {
         if rest == 0 {
             break;
@@ -61,7 +61,7 @@ fn gap_end(h: Head, items: &[u64], p: Place) -> Place
     ensures { Carried ending h items.now p h items.now result }
 {
     let mut at = p;
-    // The count is the place's own, which callers read.
+    // The count is the place's own, which callers read: a `for` would count beside it, no plainer.
     while at.todo > 0 && stays_in_gap(items[at.right as usize]) {
         at = forward(items, at);
     }
@@ -89,7 +89,7 @@ fn tidy_until(h: Head, items: &mut [u64], p: Place, stop: u32, start: Attrs, end
     ensures { Carried (tidy_first (p.todo - stop) (env_of start) (env_of end)) h items.old p h items.new result }
 {
     let mut at = p;
-    // The count is the place's own, which callers read.
+    // The count is the place's own, which callers read: a `for` would count beside it, no plainer.
     while at.todo > stop {
         if is_idle(items[at.right as usize], start, end) {
             delete(items, at.right);

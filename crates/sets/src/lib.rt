@@ -13,7 +13,7 @@ pub fn bit_of(key: u32) -> u16
     1u16 << key
 }
 
-// A number, not a bool, so that a test of it is a fact of numbers.
+// A number, not a bool: the laws of a key's bit are over numbers (`BitIs`), and a test of a bool would be no plainer.
 pub fn bit_at(mask: u16, key: u32) -> u16
     requires { key < 16 }
     ensures { BitIs mask key result }
