@@ -7,3 +7,4 @@ pub mod Stored
 pub mod Copies
 pub mod Models
 pub mod Lengths
+pub mod Steps

@@ -5,7 +5,8 @@
 use attrs::Attrs;
 use items::{len, text_of};
 use layout::head::Head;
-use layout::word::{Content, Item, unpack};
+use layout::list::Items;
+use layout::word::{Content, Item};
 use refusal::Refusal;
 use sheet::insert::{insert, insert_embed, insert_with_attributes};
 use sheet::range::{format, remove_range};
@@ -39,14 +40,8 @@ fn print_item(rt: &impl Print, n: u32, it: Item, text: &[u16]) -> io::Result<()>
 }
 
 fn print_list(rt: &impl Print, h: Head, items: &[u64], units: &[u16]) -> io::Result<()> {
-    let mut at = h.first;
-    for _ in 0..h.items {
-        let Some(w) = items.get(at as usize) else {
-            return Ok(());
-        };
-        let it = unpack(*w);
-        print_item(rt, at, it, text_of(h, items, units, at))?;
-        at = it.next;
+    for (n, it) in Items::new(h, items) {
+        print_item(rt, n, it, text_of(h, items, units, n))?;
     }
     Ok(())
 }
