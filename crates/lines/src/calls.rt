@@ -145,10 +145,17 @@ fn marks(name: u8) -> bool
 fn text_call(rest: Rest, name: u8, units: &mut [u16]) -> Option<Asked>
     ensures { TextAsked rest.entry.line.now rest.entry.from name units.old units.new result }
 {
-    let line = rest.line;
     let n = number_at(rest);
     let index = n.number?;
-    let f = read_fields(Rest { line, from: n.next }, 0, marks(name), units);
+    let f = read_fields(
+        Rest {
+            line: rest.line,
+            from: n.next,
+        },
+        0,
+        marks(name),
+        units,
+    );
     Asked::with_fields(text(name, index), f)
 }
 
@@ -163,16 +170,26 @@ fn ranged(name: u8, index: u32, n: u32) -> Call
     }
 }
 
-// One number more than behind a text's letter, and no units; the reading of the fields is the one line that both have.
+// Apart from `text_call`: two numbers lie before the fields, and no units are lent.
 fn ranged_call(rest: Rest, name: u8) -> Option<Asked>
     ensures { RangedAsked rest.entry.line.now rest.entry.from name result }
 {
-    let line = rest.line;
     let a = number_at(rest);
     let index = a.number?;
-    let b = number_at(Rest { line, from: a.next });
+    let b = number_at(Rest {
+        line: rest.line,
+        from: a.next,
+    });
     let n = b.number?;
-    let f = read_fields(Rest { line, from: b.next }, 0, marks(name), &mut []);
+    let f = read_fields(
+        Rest {
+            line: rest.line,
+            from: b.next,
+        },
+        0,
+        marks(name),
+        &mut [],
+    );
     Asked::with_fields(ranged(name, index, n), f)
 }
 

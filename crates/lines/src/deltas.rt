@@ -27,7 +27,7 @@ pub enum Sort {
     Numbers,
 }
 
-// A delta that has no room says so by its count, one more than any call takes.
+// A delta that has no room says so by its count, one more than any call takes, so that Many is the call's own answer behind its other tests: `delta_in` and the edit operation_257_lost hold it.
 fn longer(delta: Delta, op: DeltaOp) -> Delta
     ensures { result ≡ longer_of (pushed delta op) }
 {
@@ -103,12 +103,19 @@ fn op_of(name: u8, n: u32) -> Op
 fn numbered_op(rest: Rest, d: AskedDelta, name: u8) -> AskedDelta
     ensures { NumberedIs rest.entry.line.now d rest.entry.from name result }
 {
-    let line = rest.line;
     let a = number_at(rest);
     let Some(n) = a.number else {
         return d.stopped(a.next, End::Wrong);
     };
-    let f = read_fields(Rest { line, from: a.next }, 0, name != b'd', &mut []);
+    let f = read_fields(
+        Rest {
+            line: rest.line,
+            from: a.next,
+        },
+        0,
+        name != b'd',
+        &mut [],
+    );
     d.with_op(op_of(name, n), f, d.count)
 }
 
@@ -128,10 +135,12 @@ fn one_op(rest: Rest, d: AskedDelta, units: &mut [u16]) -> AskedDelta
     requires units_len_bound { length units.old < 4294967296 }
     ensures { ReadTo rest.entry.line.now units.old units.new result (op_in rest.entry.line.now d (word_at rest.entry.line.now rest.entry.from) units.old) }
 {
-    let line = rest.line;
     let w = next_word(rest);
-    let name = letter(&line[w.start..w.end]);
-    let behind = Rest { line, from: w.end };
+    let name = letter(&rest.line[w.start..w.end]);
+    let behind = Rest {
+        line: rest.line,
+        from: w.end,
+    };
     match sort_of(name) {
         Some(Sort::Texts) => text_op(behind, d, units),
         Some(Sort::Numbers) => numbered_op(behind, d, name),
@@ -144,13 +153,19 @@ fn all_ops(rest: Rest, units: &mut [u16]) -> AskedDelta
     requires { length units.old < 4294967296 }
     ensures { ReadTo rest.entry.line.now units.old units.new result (all_ops (length rest.entry.line.now + 1) rest.entry.line.now (start_ops rest.entry.from) units.old) }
 {
-    let line = rest.line;
     let mut d = AskedDelta::start(rest.from);
-    for _ in 0..=line.len() {
+    for _ in 0..=rest.line.len() {
         if d.end != End::Op {
             return d;
         }
-        d = one_op(Rest { line, from: d.at }, d, units);
+        d = one_op(
+            Rest {
+                line: rest.line,
+                from: d.at,
+            },
+            d,
+            units,
+        );
     }
     d
 }
