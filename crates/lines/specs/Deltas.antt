@@ -1,5 +1,5 @@
 -- The operations of a delta's line.
-use Rattle.std.specs.Prelude.{◌≡◌, Bool, true, cond, not, ◌||◌, List, [], ℕ, ◌+◌, ◌-◌, ◌≤◌, eqb, length, Option, Some, None}
+use Rattle.std.specs.Prelude.{◌≡◌, Bool, true, false, cond, List, [], ℕ, ◌+◌, ◌-◌, ◌≤◌, eqb, length, Option, Some, None}
 use Rattle.std.specs.Option.{option_or}
 use Rattle.ops.specs.Ops.{empty_delta, Pushed, pushed}
 use Rattle.ops.specs.declared.delta.Inserted.TheVariants.{Text, Embed}
@@ -15,6 +15,8 @@ use Rattle.lines.specs.declared.fields.Field.TheVariants.{Line, Op as Semicolon,
 use Rattle.lines.specs.declared.fields.Fields.{Fields}
 use Rattle.lines.specs.declared.fields.End.{End}
 use Rattle.lines.specs.declared.fields.End.TheVariants.{Line as AtLine, Op as AtOp, Wrong}
+use Rattle.lines.specs.declared.deltas.Counted.{Counted}
+use Rattle.lines.specs.declared.deltas.Counted.TheVariants.{Embed as Embeds, Retain as Retains, Delete as Deletes}
 use Rattle.lines.specs.declared.deltas.Sort.{Sort}
 use Rattle.lines.specs.declared.deltas.Sort.TheVariants.{Texts, Numbers}
 use Rattle.lines.specs.declared.deltas.AskedDelta.{AskedDelta}
@@ -57,37 +59,44 @@ with_text d g =
 abbrev pub text_op : List ℕ → AskedDelta → ℕ → List ℕ → Taken
 text_op s d from units = with_text d (gather (length s + 1) s true (start_at from d.count) units)
 
--- No attributes behind d.
-abbrev pub op_marks : ℕ → Bool
-op_marks c = not (eqb c 100)
+-- No attributes behind a deletion.
+abbrev pub op_marks : Counted → Bool
+op_marks Embeds = true
+op_marks Retains = true
+op_marks Deletes = false
 
--- x is an embed, r retains, d deletes.
-abbrev pub op_of : ℕ → ℕ → Op
-op_of c n = cond (eqb c 120) (Insert (Embed n)) (cond (eqb c 114) (Retain n) (Delete n))
+abbrev pub op_of : Counted → ℕ → Op
+op_of Embeds n = Insert (Embed n)
+op_of Retains n = Retain n
+op_of Deletes n = Delete n
 
-abbrev pub numbered_with : List ℕ → AskedDelta → ℕ → Option ℕ → ℕ → AskedDelta
+abbrev pub numbered_with : List ℕ → AskedDelta → Counted → Option ℕ → ℕ → AskedDelta
 numbered_with s d c (Some n) next = with_op d (op_of c n) (gather (length s + 1) s (op_marks c) (start_at next 0) []).fields d.count
 numbered_with s d c None next = stopped_ops d next Wrong
 
-abbrev pub numbered_op : List ℕ → AskedDelta → ℕ → ℕ → AskedDelta
+abbrev pub numbered_op : List ℕ → AskedDelta → ℕ → Counted → AskedDelta
 numbered_op s d from c = let n = number_at s from in numbered_with s d c n.number n.next
 
-pub record NumberedIs (s : List ℕ) (d : AskedDelta) (from c : ℕ) (r : AskedDelta) : Type 0 where
+pub record NumberedIs (s : List ℕ) (d : AskedDelta) (from : ℕ) (c : Counted) (r : AskedDelta) : Type 0 where
   pub is : r ≡ numbered_op s d from c
   pub within : r.at ≤ length s
   pub count : r.count ≡ d.count
 
--- i has text; x, r and d have a number.
+-- i has text; x, an embed, r, which retains, and d, which deletes, have a number.
 unfoldable pub sort_of : ℕ → Option Sort
-sort_of c = cond (eqb c 105) (Some Texts) (cond (eqb c 120 || (eqb c 114 || eqb c 100)) (Some Numbers) None)
+sort_of c =
+    cond (eqb c 105) (Some Texts)
+    (cond (eqb c 120) (Some (Numbers Embeds))
+    (cond (eqb c 114) (Some (Numbers Retains))
+    (cond (eqb c 100) (Some (Numbers Deletes)) None)))
 
-abbrev pub op_by : Option Sort → List ℕ → AskedDelta → ℕ → ℕ → List ℕ → Taken
-op_by (Some Texts) s d from c units = text_op s d from units
-op_by (Some Numbers) s d from c units = record { asked = numbered_op s d from c; units = units }
-op_by None s d from c units = record { asked = stopped_ops d from Wrong; units = units }
+abbrev pub op_by : Option Sort → List ℕ → AskedDelta → ℕ → List ℕ → Taken
+op_by (Some Texts) s d from units = text_op s d from units
+op_by (Some (Numbers c)) s d from units = record { asked = numbered_op s d from c; units = units }
+op_by None s d from units = record { asked = stopped_ops d from Wrong; units = units }
 
 abbrev pub op_in : List ℕ → AskedDelta → Found → List ℕ → Taken
-op_in s d w units = op_by (sort_of (name_of s w)) s d w.end (name_of s w) units
+op_in s d w units = op_by (sort_of (name_of s w)) s d w.end units
 
 -- ---- all operations
 

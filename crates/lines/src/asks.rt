@@ -61,10 +61,14 @@ fn worded(w: &[u8], name: u8) -> Option<Entry>
 fn ended(rest: Rest, name: u8) -> Option<Entry>
     ensures { result ≡ ended_entry rest.entry.line.now rest.entry.from name }
 {
-    let line = rest.line;
     let w = next_word(rest);
-    match read_field(Rest { line, from: w.end }).field {
-        Field::Line => worded(&line[w.start..w.end], name),
+    match read_field(Rest {
+        line: rest.line,
+        from: w.end,
+    })
+    .field
+    {
+        Field::Line => worded(&rest.line[w.start..w.end], name),
         Field::Op | Field::Word(_) => None,
     }
 }

@@ -1,6 +1,6 @@
 // The call that a line asks for.
 ghost use Rattle.std.specs.Prelude.{◌≡◌, ◌≤◌, length};
-ghost use Rattle.lines.specs.Calls.{kind_of, NumberIs, bare_asked, asked_of, plain_of, plain_asked, text_call, TextAsked, ranged_of, marks_of, RangedAsked, CallAsked};
+ghost use Rattle.lines.specs.Calls.{kind_of, NumberIs, bare_asked, asked_of, plain_asked, text_call, TextAsked, ranged_of, marks_of, RangedAsked, CallAsked};
 
 use crate::fields::{End, Field, Fields, letter, read_field, read_fields};
 use attrs::Attrs;
@@ -37,12 +37,21 @@ pub struct Asked {
     pub refusal: Option<Refusal>,
 }
 
-// What a line's letter wants behind it.
+// A call of two numbers; attributes may stand behind an `EmbedWith` and a `Format`.
+#[derive(Clone, Copy)]
+pub enum Ranged {
+    Embed,
+    EmbedWith,
+    Format,
+    Remove,
+}
+
+// What a line's letter asks for, and so what stands behind it. Attributes may stand behind a text where `marks` says so.
 #[derive(Clone, Copy)]
 pub enum Kind {
-    Plain,
-    Text,
-    Ranged,
+    Plain(Call),
+    Text { marks: bool },
+    Ranged(Ranged),
     Delta,
     Entry,
 }
@@ -52,9 +61,16 @@ fn kind_of(name: u8) -> Option<Kind>
     ensures { result ≡ kind_of name }
 {
     match name {
-        b'b' | b'n' | b'q' | b'p' => Some(Kind::Plain),
-        b'i' | b'w' => Some(Kind::Text),
-        b'e' | b'f' | b'r' | b'x' => Some(Kind::Ranged),
+        b'b' => Some(Kind::Plain(Call::Begin)),
+        b'n' => Some(Kind::Plain(Call::Fresh)),
+        b'q' => Some(Kind::Plain(Call::Query)),
+        b'p' => Some(Kind::Plain(Call::Show)),
+        b'i' => Some(Kind::Text { marks: false }),
+        b'w' => Some(Kind::Text { marks: true }),
+        b'e' => Some(Kind::Ranged(Ranged::Embed)),
+        b'x' => Some(Kind::Ranged(Ranged::EmbedWith)),
+        b'f' => Some(Kind::Ranged(Ranged::Format)),
+        b'r' => Some(Kind::Ranged(Ranged::Remove)),
         b'd' => Some(Kind::Delta),
         b'g' | b'k' | b'm' | b's' | b't' | b'v' => Some(Kind::Entry),
         _ => None,
@@ -106,74 +122,80 @@ impl Asked {
     }
 }
 
-fn plain(name: u8) -> Call
-    ensures { result ≡ plain_of name }
-{
-    match name {
-        b'b' => Call::Begin,
-        b'q' => Call::Query,
-        b'p' => Call::Show,
-        _ => Call::Fresh,
-    }
-}
-
-fn plain_call(rest: Rest, name: u8) -> Option<Asked>
-    ensures { result ≡ plain_asked rest.entry.line.now rest.entry.from name }
+fn plain_call(rest: Rest, call: Call) -> Option<Asked>
+    ensures { result ≡ plain_asked rest.entry.line.now rest.entry.from call }
 {
     match read_field(rest).field {
-        Field::Line => Some(Asked::bare(plain(name))),
+        Field::Line => Some(Asked::bare(call)),
         Field::Op | Field::Word(_) => None,
     }
 }
 
-fn text(name: u8, index: u32) -> Call
-    ensures { result ≡ text_call name index }
+fn text(marks: bool, index: u32) -> Call
+    ensures { result ≡ text_call marks index }
 {
-    match name {
-        b'i' => Call::Insert(index),
-        _ => Call::InsertWith(index),
+    if marks {
+        Call::InsertWith(index)
+    } else {
+        Call::Insert(index)
     }
 }
 
-// Whether attributes may stand in the line: not behind plain text, a plain embed or a removal.
-fn marks(name: u8) -> bool
-    ensures { result ≡ marks_of name }
+fn text_call(rest: Rest, marks: bool, units: &mut [u16]) -> Option<Asked>
+    ensures { TextAsked rest.entry.line.now rest.entry.from marks units.old units.new result }
 {
-    !matches!(name, b'i' | b'e' | b'r')
-}
-
-fn text_call(rest: Rest, name: u8, units: &mut [u16]) -> Option<Asked>
-    ensures { TextAsked rest.entry.line.now rest.entry.from name units.old units.new result }
-{
-    let line = rest.line;
     let n = number_at(rest);
     let index = n.number?;
-    let f = read_fields(Rest { line, from: n.next }, 0, marks(name), units);
-    Asked::with_fields(text(name, index), f)
+    let f = read_fields(
+        Rest {
+            line: rest.line,
+            from: n.next,
+        },
+        0,
+        marks,
+        units,
+    );
+    Asked::with_fields(text(marks, index), f)
 }
 
-fn ranged(name: u8, index: u32, n: u32) -> Call
-    ensures { result ≡ ranged_of name index n }
+fn marks(call: Ranged) -> bool
+    ensures { result ≡ marks_of call }
 {
-    match name {
-        b'e' => Call::Embed { index, n },
-        b'x' => Call::EmbedWith { index, n },
-        b'f' => Call::Format { index, len: n },
-        _ => Call::Remove { index, len: n },
+    matches!(call, Ranged::EmbedWith | Ranged::Format)
+}
+
+fn call_of(call: Ranged, index: u32, n: u32) -> Call
+    ensures { result ≡ ranged_of call index n }
+{
+    match call {
+        Ranged::Embed => Call::Embed { index, n },
+        Ranged::EmbedWith => Call::EmbedWith { index, n },
+        Ranged::Format => Call::Format { index, len: n },
+        Ranged::Remove => Call::Remove { index, len: n },
     }
 }
 
-// One number more than behind a text's letter, and no units; the reading of the fields is the one line that both have.
-fn ranged_call(rest: Rest, name: u8) -> Option<Asked>
-    ensures { RangedAsked rest.entry.line.now rest.entry.from name result }
+// Apart from `text_call`: two numbers lie before the fields, and no units are lent.
+fn ranged_call(rest: Rest, call: Ranged) -> Option<Asked>
+    ensures { RangedAsked rest.entry.line.now rest.entry.from call result }
 {
-    let line = rest.line;
     let a = number_at(rest);
     let index = a.number?;
-    let b = number_at(Rest { line, from: a.next });
+    let b = number_at(Rest {
+        line: rest.line,
+        from: a.next,
+    });
     let n = b.number?;
-    let f = read_fields(Rest { line, from: b.next }, 0, marks(name), &mut []);
-    Asked::with_fields(ranged(name, index, n), f)
+    let f = read_fields(
+        Rest {
+            line: rest.line,
+            from: b.next,
+        },
+        0,
+        marks(call),
+        &mut [],
+    );
+    Asked::with_fields(call_of(call, index, n), f)
 }
 
 // None where the line is no call. Units of text go to the front of the lent ones. A delta's operations are left for `read_delta`.
@@ -185,12 +207,11 @@ pub fn read_call(line: &[u8], units: &mut [u16]) -> Option<Asked>
     if w.start == w.end || line[w.start] == b'#' {
         return Some(Asked::bare(Call::Silent));
     }
-    let name = letter(&line[w.start..w.end]);
     let rest = Rest { line, from: w.end };
-    match kind_of(name)? {
-        Kind::Plain => plain_call(rest, name),
-        Kind::Text => text_call(rest, name, units),
-        Kind::Ranged => ranged_call(rest, name),
+    match kind_of(letter(&line[w.start..w.end]))? {
+        Kind::Plain(call) => plain_call(rest, call),
+        Kind::Text { marks } => text_call(rest, marks, units),
+        Kind::Ranged(call) => ranged_call(rest, call),
         Kind::Delta => Some(Asked::bare(Call::Delta)),
         Kind::Entry => Some(Asked::bare(Call::Entry)),
     }

@@ -2,7 +2,7 @@
 ghost use Rattle.std.specs.Prelude.{◌≡◌, ◌<◌, ◌≤◌, ◌+◌, length};
 ghost use Rattle.words.specs.Words.{word_at};
 ghost use Rattle.ops.specs.Ops.{pushed};
-ghost use Rattle.lines.specs.Deltas.{start_ops, stopped_ops, longer_of, with_op, text_op, op_of, NumberedIs, sort_of, op_in, all_ops, delta_in, ReadTo};
+ghost use Rattle.lines.specs.Deltas.{start_ops, stopped_ops, longer_of, with_op, text_op, op_of, op_marks, NumberedIs, sort_of, op_in, all_ops, delta_in, ReadTo};
 
 use crate::calls::number_at;
 use crate::fields::{End, Field, Fields, letter, read_field, read_fields};
@@ -20,14 +20,22 @@ pub struct AskedDelta {
     pub end: End,
 }
 
-// What an operation's letter wants behind it.
+// An operation of one number; attributes may stand behind any but a deletion.
+#[derive(Clone, Copy)]
+pub enum Counted {
+    Embed,
+    Retain,
+    Delete,
+}
+
+// What an operation's letter asks for, and so what stands behind it.
 #[derive(Clone, Copy)]
 pub enum Sort {
     Texts,
-    Numbers,
+    Numbers(Counted),
 }
 
-// A delta that has no room says so by its count, one more than any call takes.
+// A delta that has no room says so by its count, one more than any call takes, so that Many is the call's own answer behind its other tests: `delta_in` and the edit operation_257_lost hold it.
 fn longer(delta: Delta, op: DeltaOp) -> Delta
     ensures { result ≡ longer_of (pushed delta op) }
 {
@@ -89,27 +97,39 @@ fn text_op(rest: Rest, d: AskedDelta, units: &mut [u16]) -> AskedDelta
     d.with_op(Op::Insert(part), f, end)
 }
 
-fn op_of(name: u8, n: u32) -> Op
-    ensures { result ≡ op_of name n }
+fn op_of(counted: Counted, n: u32) -> Op
+    ensures { result ≡ op_of counted n }
 {
-    match name {
-        b'x' => Op::Insert(Inserted::Embed(n)),
-        b'r' => Op::Retain(n),
-        _ => Op::Delete(n),
+    match counted {
+        Counted::Embed => Op::Insert(Inserted::Embed(n)),
+        Counted::Retain => Op::Retain(n),
+        Counted::Delete => Op::Delete(n),
     }
 }
 
-// Attributes may stand behind any number but that of a deletion.
-fn numbered_op(rest: Rest, d: AskedDelta, name: u8) -> AskedDelta
-    ensures { NumberedIs rest.entry.line.now d rest.entry.from name result }
+fn op_marks(counted: Counted) -> bool
+    ensures { result ≡ op_marks counted }
 {
-    let line = rest.line;
+    !matches!(counted, Counted::Delete)
+}
+
+fn numbered_op(rest: Rest, d: AskedDelta, counted: Counted) -> AskedDelta
+    ensures { NumberedIs rest.entry.line.now d rest.entry.from counted result }
+{
     let a = number_at(rest);
     let Some(n) = a.number else {
         return d.stopped(a.next, End::Wrong);
     };
-    let f = read_fields(Rest { line, from: a.next }, 0, name != b'd', &mut []);
-    d.with_op(op_of(name, n), f, d.count)
+    let f = read_fields(
+        Rest {
+            line: rest.line,
+            from: a.next,
+        },
+        0,
+        op_marks(counted),
+        &mut [],
+    );
+    d.with_op(op_of(counted, n), f, d.count)
 }
 
 #[tactic(auto, unfolding(crate::specs::Deltas::sort_of))]
@@ -118,7 +138,9 @@ fn sort_of(name: u8) -> Option<Sort>
 {
     match name {
         b'i' => Some(Sort::Texts),
-        b'x' | b'r' | b'd' => Some(Sort::Numbers),
+        b'x' => Some(Sort::Numbers(Counted::Embed)),
+        b'r' => Some(Sort::Numbers(Counted::Retain)),
+        b'd' => Some(Sort::Numbers(Counted::Delete)),
         _ => None,
     }
 }
@@ -128,13 +150,14 @@ fn one_op(rest: Rest, d: AskedDelta, units: &mut [u16]) -> AskedDelta
     requires units_len_bound { length units.old < 4294967296 }
     ensures { ReadTo rest.entry.line.now units.old units.new result (op_in rest.entry.line.now d (word_at rest.entry.line.now rest.entry.from) units.old) }
 {
-    let line = rest.line;
     let w = next_word(rest);
-    let name = letter(&line[w.start..w.end]);
-    let behind = Rest { line, from: w.end };
-    match sort_of(name) {
+    let behind = Rest {
+        line: rest.line,
+        from: w.end,
+    };
+    match sort_of(letter(&rest.line[w.start..w.end])) {
         Some(Sort::Texts) => text_op(behind, d, units),
-        Some(Sort::Numbers) => numbered_op(behind, d, name),
+        Some(Sort::Numbers(counted)) => numbered_op(behind, d, counted),
         None => d.stopped(w.end, End::Wrong),
     }
 }
@@ -144,13 +167,19 @@ fn all_ops(rest: Rest, units: &mut [u16]) -> AskedDelta
     requires { length units.old < 4294967296 }
     ensures { ReadTo rest.entry.line.now units.old units.new result (all_ops (length rest.entry.line.now + 1) rest.entry.line.now (start_ops rest.entry.from) units.old) }
 {
-    let line = rest.line;
     let mut d = AskedDelta::start(rest.from);
-    for _ in 0..=line.len() {
+    for _ in 0..=rest.line.len() {
         if d.end != End::Op {
             return d;
         }
-        d = one_op(Rest { line, from: d.at }, d, units);
+        d = one_op(
+            Rest {
+                line: rest.line,
+                from: d.at,
+            },
+            d,
+            units,
+        );
     }
     d
 }

@@ -144,13 +144,19 @@ impl Fields {
 pub(crate) fn read_fields(rest: Rest, count: usize, marks: bool, units: &mut [u16]) -> Fields
     ensures { Gathers rest.entry.line.now (start_at rest.entry.from count) marks units.old units.new result }
 {
-    let line = rest.line;
     let mut f = Fields::start(rest.from, count);
-    for _ in 0..=line.len() {
+    for _ in 0..=rest.line.len() {
         if f.end != End::More {
             return f;
         }
-        f = f.with_field(read_field(Rest { line, from: f.at }), marks, units);
+        f = f.with_field(
+            read_field(Rest {
+                line: rest.line,
+                from: f.at,
+            }),
+            marks,
+            units,
+        );
     }
     f
 }

@@ -1,47 +1,69 @@
--- Bytes of one class: a step, a stop and the end of the walk over them.
-use mathlib.Core.Path.{◌≡◌}
-use mathlib.Core.Bool.{true, false}
-use mathlib.Core.List.{List}
-use Prim.Native.Nat.{ℕ, suc, ◌+◌, ◌≤◌, ◌<◌}
+-- Bytes of one class end at the first byte that is none of it.
+use mathlib.Core.Path.{◌≡◌, refl}
+use mathlib.Core.Bool.{Bool, true, false, cond}
+use mathlib.Core.List.{List, ◌∷◌}
+use Prim.Native.Nat.{ℕ, suc, ◌+◌, ◌-◌, ◌≤◌}
 use native.Mathlib.Omega.{arith}
-use native.Mathlib.Numerals.{add-one}
-use lib.ListN.{length, get_or, drop, drop_of_length-le}
-use lib.Seq.{drop-cons}
-use Rattle.words.specs.Words.{passes, leading, Spans}
+use borrow.Author.Tests.{ltb-true, ltb-false}
+use lib.Dec.{ltb}
+use lib.ListN.{length, take, drop, length-drop}
+use Rattle.std.specs.Prelude.{not, Some, None}
+use Rattle.std.specs.List.{position_or_len}
+use Rattle.std.proofs.lemmas.List.Recursion.{is_position_or_len}
+use Rattle.std.proofs.lemmas.List.Sums.{prefix_len-le-length}
+use Rattle.std.proofs.lemmas.List.{take_all}
+use Rattle.words.specs.Words.{passes, leading, other_of, Spans}
 use Rattle.words.specs.declared.words.Class.{Class}
 
-module _ (c : Class) (s : List ℕ) (i : ℕ) where
-  pub leading_end : length s ≤ i → leading c (drop i s) ≡ 0
+module _ (c : Class) where
+  abbrev stops : ℕ → Bool
+  stops b = not (passes c b)
+
+  leading_cons : (x : ℕ) (xs : List ℕ) → leading c (x ∷ xs) ≡ cond (stops x) 0 (1 + leading c xs)
   unfolding leading
-  leading_end h = rw (drop_of_length-le s h)
+  leading_cons x xs = go (passes c x)
+    where
+      go : (t : Bool) → cond t (suc (leading c xs)) 0 ≡ cond (not t) 0 (1 + leading c xs)
+      go true = omega arith
+      go false = refl
 
-  pub leading-stop : i < length s → passes c (get_or s i 0) ≡ false → leading c (drop i s) ≡ 0
+  leading_first : (xs : List ℕ) → leading c xs ≡ position_or_len stops xs
   unfolding leading
-  leading-stop h p = rw (drop-cons s i 0 h, p)
+  leading_first xs = is_position_or_len (leading c) stops refl leading_cons xs
 
-  pub leading_step : i < length s → passes c (get_or s i 0) ≡ true → leading c (drop i s) ≡ suc (leading c (drop (i + 1) s))
-  unfolding leading
-  leading_step h p = rw (add-one, drop-cons s i 0 h, p)
+  module _ (s : List ℕ) (from : ℕ) (h : from ≤ length s) where
+    whole : take (length s - from) (drop from s) ≡ drop from s
+    whole = take_all (length s - from) (drop from s) (omega (arith, length-drop from s))
 
--- The walk: what is passed and what still passes are what passes from the start.
-pub record Spanning (c : Class) (s : List ℕ) (from i : ℕ) : Type 0 where
-  pub low : from ≤ i
-  pub high : i ≤ length s
-  pub rest : i + leading c (drop i s) ≡ from + leading c (drop from s)
+    pub spans-some : (i : ℕ) → other_of c (take (length s - from) (drop from s)) ≡ Some i → Spans c s from (from + i)
+    unfolding other_of
+    spans-some i e = go (ltb n (length (drop from s))) refl (rw whole at e)
+      where
+        n : ℕ
+        n = position_or_len stops (drop from s)
 
-module _ {c : Class} {s : List ℕ} {from : ℕ} where
-  module _ {i : ℕ} (w : Spanning c s from i) where
-    stopped : leading c (drop i s) ≡ 0 → Spans c s from i
-    stopped z = record { is = omega arith; low = w.low; high = w.high }
+        go : (t : Bool) → ltb n (length (drop from s)) ≡ t → cond t (Some n) None ≡ Some i → Spans c s from (from + i)
+        go true q r =
+            let same : n ≡ i = cc in
+            record {
+              is = omega (arith, same, leading_first (drop from s));
+              low = omega arith;
+              high = omega (arith, same, ltb-true n (length (drop from s)) q, length-drop from s);
+            }
+        go false q r = cc
 
-    pub spanning-end : length s ≤ i → Spans c s from (length s)
-    spanning-end h = let all : i ≡ length s = omega (arith, w.high) in rw (← all) (stopped (leading_end c s i h))
+    pub spans-none : other_of c (take (length s - from) (drop from s)) ≡ None → Spans c s from (length s)
+    unfolding other_of
+    spans-none e = go (ltb n (length (drop from s))) refl (rw whole at e)
+      where
+        n : ℕ
+        n = position_or_len stops (drop from s)
 
-    module _ (h : i < length s) where
-      pub spanning-stop : passes c (get_or s i 0) ≡ false → Spans c s from i
-      spanning-stop p = stopped (leading-stop c s i h p)
-
-      pub spanning-step : passes c (get_or s i 0) ≡ true → Spanning c s from (i + 1)
-      spanning-step p =
-          let step = leading_step c s i h p in
-          record { low = omega arith; high = omega arith; rest = omega arith }
+        go : (t : Bool) → ltb n (length (drop from s)) ≡ t → cond t (Some n) None ≡ None → Spans c s from (length s)
+        go true q r = cc
+        go false q r =
+            record {
+              is = omega (arith, leading_first (drop from s), prefix_len-le-length (λ (b : ℕ). not (stops b)) (drop from s), ltb-false n (length (drop from s)) q, length-drop from s);
+              low = h;
+              high = omega arith;
+            }

@@ -1,5 +1,5 @@
 -- Bytes of one class that stand together, and the words of a line.
-use Rattle.std.specs.Prelude.{◌≡◌, Bool, cond, not, ◌||◌, List, [], ◌∷◌, ℕ, suc, ◌+◌, ◌≤◌, eqb, length, drop}
+use Rattle.std.specs.Prelude.{◌≡◌, Bool, cond, not, ◌||◌, List, [], ◌∷◌, ℕ, suc, ◌+◌, ◌≤◌, eqb, length, drop, position, Option}
 use Rattle.words.specs.declared.words.Class.{Class}
 use Rattle.words.specs.declared.words.Class.TheVariants.{Space, Word, Key, Line}
 use Rattle.words.specs.declared.words.Word.{Word as Found}
@@ -19,6 +19,10 @@ passes Line b = not (eqb b 10)
 unfoldable pub leading : Class → List ℕ → ℕ
 leading c [] = 0
 leading c (b ∷ bs) = cond (passes c b) (suc (leading c bs)) 0
+
+-- The index of the first byte that does not pass.
+unfoldable pub other_of : Class → List ℕ → Option ℕ
+other_of c s = position (λ (b : ℕ). not (passes c b)) s
 
 -- The end of the bytes of a class that begin at `from`, with the bounds that callers ask for.
 pub record Spans (c : Class) (s : List ℕ) (from r : ℕ) : Type 0 where

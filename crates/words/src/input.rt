@@ -22,9 +22,6 @@ pub fn to_front(buf: &mut [u8], start: usize, end: usize) -> usize
     requires end_in_bounds { end ≤ length buf.old }
     ensures { Moved buf.old buf.new start end result }
 {
-    let n = end - start;
-    for i in 0..n {
-        buf[i] = buf[start + i];
-    }
-    n
+    buf.copy_within(start..end, 0);
+    end - start
 }

@@ -1,8 +1,8 @@
 // Words: what stands between spaces.
 ghost use Rattle.std.specs.Prelude.{◌≡◌, ◌≤◌, length};
-ghost use Rattle.words.specs.Words.{parts as Words·parts, passes as Words·passes, Spans, WordIs};
+ghost use Rattle.words.specs.Words.{parts as Words·parts, passes as Words·passes, other_of, Spans, WordIs};
 
-// Which bytes a span goes over.
+// Which bytes a span goes over: a value, not a closure, since the edit line_ends_at_a_space puts one in place of another.
 #[derive(Clone, Copy)]
 pub enum Class {
     Space,
@@ -28,17 +28,23 @@ fn passes(class: Class, b: u8) -> bool
     }
 }
 
+#[tactic(auto, unfolding(crate::specs::Words::other_of))]
+fn first_other(s: &[u8], class: Class) -> Option<usize>
+    ensures { result ≡ other_of class s.now }
+{
+    s.iter().position(|b| !passes(class, *b))
+}
+
 // Where the bytes of a class that begin at `from` end.
 pub fn span(s: &[u8], from: usize, class: Class) -> usize
     requires { from ≤ length s.now }
     ensures { Spans class s.now from result }
 {
-    for i in from..s.len() {
-        if !passes(class, s[i]) {
-            return i;
-        }
+    let n = s.len();
+    match first_other(&s[from..], class) {
+        Some(i) => from + i,
+        None => n,
     }
-    s.len()
 }
 
 // What is left of a line: its bytes from one of them on.

@@ -1,13 +1,15 @@
 use mathlib.Core.Path.{sym, ◌∙◌}
 use native.Mathlib.Omega.{arith}
-use Rattle.words.proofs.Spans.{spanning-end, spanning-stop, spanning-step}
+use Rattle.words.proofs.Spans.{spans-some, spans-none}
 use Rattle.words.proofs.words.span.Goals as goal
 
-pub returns-then-not-passes : goal.returns-then-not-passes
-returns-then-not-passes c = spanning-stop c.loop-i.invariant c.loop-i-test.true (sym c.passes.ensures ∙ c.if-not-passes.true)
+pub overflow_add-result : goal.overflow_add-result
+overflow_add-result c =
+    let e = spans-some c.args.class c.args.s.now c.args.from c.requires c.in-Some.i (sym c.first_other.ensures ∙ c.in-Some.is) in
+    omega (arith, e.high)
 
-pub loop-i-preserved : goal.loop-i-preserved
-loop-i-preserved c = spanning-step c.loop-i.invariant c.loop-i-test.true (sym c.passes.ensures ∙ c.if-not-passes.false)
+pub returns-in-Some : goal.returns-in-Some
+returns-in-Some c = spans-some c.args.class c.args.s.now c.args.from c.requires c.in-Some.i (sym c.first_other.ensures ∙ c.in-Some.is)
 
-pub returns : goal.returns
-returns c = spanning-end c.loop-i.invariant (omega arith)
+pub returns-in-None : goal.returns-in-None
+returns-in-None c = spans-none c.args.class c.args.s.now c.args.from c.requires (sym c.first_other.ensures ∙ c.in-None.is)
