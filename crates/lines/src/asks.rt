@@ -36,6 +36,7 @@ fn integer(w: &[u8]) -> Option<Entry>
     Some(Entry::Integer(u64::from(high) * 4294967296 + u64::from(low)))
 }
 
+// The letter goes on from `named_entry` down to here: each step takes its own letters and leaves the others, and enums for that would name the six entries once more for each step.
 fn numbered(name: u8, n: u32) -> Option<Entry>
     ensures { result ≡ numbered_entry name n }
 {

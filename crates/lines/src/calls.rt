@@ -28,6 +28,7 @@ pub enum Call {
     Fresh,
 }
 
+// The set stands beside its refusal, no Result: the clause of `read_call` (`asked_of`) tells of both.
 // A call, how many units of its text lie in the lent ones, its set, and what that refused of its attributes.
 #[derive(Clone, Copy)]
 pub struct Asked {

@@ -10,6 +10,7 @@ use ops::delta::{Delta, DeltaOp, Inserted, Op};
 use refusal::Refusal;
 use words::words::{Rest, next_word};
 
+// A struct even where the line is no delta, and the refusal beside the delta: the clause of `read_delta` (`delta_in`) tells how far such a line was read, and what was taken.
 // The operations so far, how many units of theirs lie in the lent ones, and what a set refused of its attributes. One more follows where `end` is `Op`.
 #[derive(Clone, Copy)]
 pub struct AskedDelta {

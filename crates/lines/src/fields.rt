@@ -30,6 +30,7 @@ pub enum End {
     Wrong,
 }
 
+// The set stands beside its refusal, no Result: `pair_field`, and so each clause of the calls, tells what the set took besides.
 // What was gathered: how many units lie in the lent ones, the set, and what it refused where a key or a value was out of range.
 #[derive(Clone, Copy)]
 pub struct Fields {
