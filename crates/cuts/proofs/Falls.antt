@@ -1,17 +1,13 @@
 -- One step of the walk to an index. Assumes nothing.
-use Prim.Native.Nat.{ℕ, zero, suc, ◌-◌, ◌<◌, ◌≤◌}
-use native.Mathlib.Omega.{arith}
-use mathlib.Core.Path.{◌≡◌, refl}
+use Prim.Native.Nat.{ℕ, ◌-◌, ◌<◌, ◌≤◌}
+use mathlib.Core.Path.{◌≡◌}
 use mathlib.Core.Bool.{false}
-use mathlib.Core.List.{List}
-use lib.ListN.{length, get_or}
+use mathlib.Core.List.{List, [], ◌∷◌}
+use lib.ListN.{length}
 use borrow.Author.Tests.{lt-ltb, le-ltb}
-use Rattle.rules.specs.Sheet.{What, text, embed, mark}
+use Rattle.rules.specs.Sheet.{What, text, embed, mark, Item}
+use Rattle.rules.specs.Places.{uses}
 use Rattle.rules.specs.Sound.{AllFit, Fits}
-use Rattle.layout.specs.Word.{what_of, unpack_of}
-use Rattle.layout.specs.Word.{shown_len}
-use Rattle.layout.specs.Chain.{next_at, chain}
-use Rattle.layout.proofs.Links.{chain-step}
 use Rattle.cuts.specs.Cuts.{cuts_piece, cut_at, Lies}
 
 lies : (n : ℕ) (w : What) → Fits n w → Lies n w
@@ -19,24 +15,22 @@ lies n (text s l) f = f.1
 lies n (embed e) f = tt
 lies n (mark k v) f = tt
 
-module _ (us m : List ℕ) (k s n : ℕ) (more : 0 < k) where
-  -- what the code counts of an item is what the rules count
-  pub falls-in : n < shown_len (unpack_of (get_or m s 0)).dead (what_of (unpack_of (get_or m s 0)).content) → cut_at us n (chain k m s) ≡ cuts_piece us (what_of (unpack_of (get_or m s 0)).content) n
+-- an item in front of the others
+module _ (us : List ℕ) (n : ℕ) {l : List Item} {i : Item} {others : List Item} (e : l ≡ i ∷ others) where
+  pub falls-in : n < uses i → cut_at us n l ≡ cuts_piece us i.what n
   unfolding cut_at
-  falls-in h = rw (chain-step k m s more, lt-ltb n _ h)
+  falls-in h = rw (e, lt-ltb n _ h)
 
-  pub falls-past : shown_len (unpack_of (get_or m s 0)).dead (what_of (unpack_of (get_or m s 0)).content) ≤ n
-      → cut_at us n (chain k m s) ≡ cut_at us (n - shown_len (unpack_of (get_or m s 0)).dead (what_of (unpack_of (get_or m s 0)).content)) (chain (k - 1) m (next_at m s))
+  pub falls-past : uses i ≤ n → cut_at us n l ≡ cut_at us (n - uses i) others
   unfolding cut_at
-  falls-past h = rw (chain-step k m s more, le-ltb n _ h)
+  falls-past h = rw (e, le-ltb n _ h)
 
-  pub lies-here : AllFit (length us) (chain k m s) → Lies (length us) (what_of (unpack_of (get_or m s 0)).content)
-  lies-here f = lies (length us) (what_of (unpack_of (get_or m s 0)).content) (rw (chain-step k m s more) at f).1
+  pub lies-here : AllFit (length us) l → Lies (length us) i.what
+  lies-here f = lies (length us) i.what (rw e at f).1
 
-  pub fits_on : AllFit (length us) (chain k m s) → AllFit (length us) (chain (k - 1) m (next_at m s))
-  fits_on f = (rw (chain-step k m s more) at f).2
+  pub fits_on : AllFit (length us) l → AllFit (length us) others
+  fits_on f = (rw e at f).2
 
-pub falls-end : (us m : List ℕ) (k s n : ℕ) → k ≤ 0 → cut_at us n (chain k m s) ≡ false
-unfolding cut_at chain
-falls-end us m zero s n h = refl
-falls-end us m (suc k) s n h = absurd (omega arith)
+pub falls-end : (us : List ℕ) (n : ℕ) {l : List Item} → l ≡ [] → cut_at us n l ≡ false
+unfolding cut_at
+falls-end us n e = rw e

@@ -9,7 +9,8 @@ ghost use Rattle.layout.specs.Memory.{list_of};
 ghost use Rattle.cuts.specs.Cuts.{cuts_piece, Lies, Readable};
 
 use layout::head::Head;
-use layout::word::{Content, shown_len, unpack};
+use layout::list::Items;
+use layout::word::{Content, shown_len};
 
 fn cuts_piece(c: Content, used: &[u16], index: u32) -> bool
     requires { Lies (length used.now) (what_of c) }
@@ -28,16 +29,13 @@ fn falls_in_pair(h: Head, items: &[u64], used: &[u16], index: u64) -> bool
     requires { Readable h items.now used.now }
     ensures { result ≡ splits_pair (visible_units used.now (list_of h items.now)) index }
 {
-    let mut at = h.first;
     let mut rest = index;
-    for _ in 0..h.items {
-        let it = unpack(items[at as usize]);
+    for (_, it) in Items::new(h, items) {
         let w = shown_len(it) as u64;
         if rest < w {
             return cuts_piece(it.content, used, rest as u32);
         }
         rest -= w;
-        at = it.next;
     }
     false
 }

@@ -6,7 +6,8 @@ use attrs::Attrs;
 use deltas::apply::apply_delta;
 use items::{len, text_of};
 use layout::head::Head;
-use layout::word::{Content, Item, unpack};
+use layout::list::Items;
+use layout::word::{Content, Item};
 use ops::delta::{Delta, DeltaOp, Inserted, Op};
 use refusal::Refusal;
 use sheet::insert::insert;
@@ -29,14 +30,8 @@ fn print_item(rt: &impl Print, n: u32, it: Item, text: &[u16]) -> io::Result<()>
 }
 
 fn print_list(rt: &impl Print, h: Head, items: &[u64], units: &[u16]) -> io::Result<()> {
-    let mut at = h.first;
-    for _ in 0..h.items {
-        let Some(w) = items.get(at as usize) else {
-            return Ok(());
-        };
-        let it = unpack(*w);
-        print_item(rt, at, it, text_of(h, items, units, at))?;
-        at = it.next;
+    for (n, it) in Items::new(h, items) {
+        print_item(rt, n, it, text_of(h, items, units, n))?;
     }
     Ok(())
 }
