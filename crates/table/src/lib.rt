@@ -146,7 +146,7 @@ fn decide(slots: &[u8; BYTES], s: Shelf, kind: Kind, bytes: &[u8]) -> Result<Opt
 fn ask(h: TableHead, table: &mut [u8], kind: Kind, bytes: &[u8]) -> Result<Asked, Refusal>
     ensures { Gives (ask_of h table.old (byte_of kind) bytes.now) (told h result) table.new }
 {
-    // `ok_or` with `?` was tried here: the goals that ask what lies in the slots stayed open.
+    // Two tests that return: by `ok_or` and `?` the borrow that is written behind them would read no plainer.
     let Some(slots) = table.as_mut_array() else {
         return Err(Refusal::Broken);
     };
