@@ -9,7 +9,8 @@ use cursors::run::Run;
 use cursors::walk::Runs;
 use encoding::op_at;
 use events::event::event;
-use layout::word::{Content, Item, unpack};
+use layout::list::Items;
+use layout::word::{Content, Item};
 use ops::delta::{DeltaOp, Inserted, Op};
 use ranges::text_of_range;
 use soundness::sound;
@@ -129,15 +130,9 @@ fn say_flags(rt: &impl Print, it: Item) -> io::Result<()> {
 }
 
 fn say_items(rt: &impl Print, sheet: &Sheet) -> io::Result<()> {
-    let mut at = sheet.head.first;
-    for _ in 0..sheet.head.items {
-        let Some(word) = sheet.items.get(at as usize) else {
-            break;
-        };
-        let it = unpack(*word);
-        say_content(rt, sheet, at, it.content)?;
+    for (n, it) in Items::new(sheet.head, &sheet.items) {
+        say_content(rt, sheet, n, it.content)?;
         say_flags(rt, it)?;
-        at = it.next;
     }
     Ok(())
 }
