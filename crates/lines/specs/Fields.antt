@@ -41,21 +41,15 @@ pub record ReadIs (s : List ℕ) (from : ℕ) (r : Read) : Type 0 where
 
 abbrev pub more : End → Bool
 more More = true
-more AtLine = false
-more AtOp = false
-more Wrong = false
+more _ = false
 
 abbrev pub at_line : End → Bool
-at_line More = false
 at_line AtLine = true
-at_line AtOp = false
-at_line Wrong = false
+at_line _ = false
 
 abbrev pub at_op : End → Bool
-at_op More = false
-at_op AtLine = false
 at_op AtOp = true
-at_op Wrong = false
+at_op _ = false
 
 -- ---- what one word adds
 
