@@ -10,12 +10,14 @@ mod names; // a line for the table
 mod edit; // one line's call
 mod input; // lines from standard input
 
+use printing::Printer;
 use state::State;
 use std::io;
 
 fn main(rt: HostRuntime) -> io::Result<()> {
     let mut buf = [0; input::ROOM];
     let mut state = State::fresh();
-    input::all_lines(&rt, rt.stdin(), &mut buf, &mut state)?;
-    answer::last(&rt, &state.sheet)
+    let out = Printer::new(rt.stdout());
+    input::all_lines(&out, rt.stdin(), &mut buf, &mut state)?;
+    answer::last(&out, &state.sheet)
 }

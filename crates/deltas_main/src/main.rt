@@ -9,6 +9,7 @@ use layout::head::Head;
 use layout::list::Items;
 use layout::word::{Content, Item};
 use ops::delta::{Delta, DeltaOp, Inserted, Op};
+use printing::Printer;
 use refusal::Refusal;
 use sheet::insert::insert;
 use sheet::range::format;
@@ -210,6 +211,7 @@ fn units_full(rt: &impl Print) -> io::Result<()> {
 }
 
 fn main(rt: HostRuntime) -> io::Result<()> {
+    let rt = Printer::new(rt.stdout());
     b11(&rt)?;
     lent(&rt)?;
     texts(&rt)?;

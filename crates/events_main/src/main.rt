@@ -5,10 +5,12 @@
 mod sheets;
 
 use layout::head::Head;
+use printing::Printer;
 use sheets::{Sheet, crossed, deleted, formatted, fresh, passing, tried, turned, unset};
 use std::io;
 
 fn main(rt: HostRuntime) -> io::Result<()> {
+    let rt = Printer::new(rt.stdout());
     tried(&rt, "fresh, no room", fresh(), 0, 0)?;
     let b13 = formatted();
     tried(&rt, "format, just room", b13, 16, 0)?;

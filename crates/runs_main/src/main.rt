@@ -2,12 +2,14 @@
 // its embed number, how many keys are in force, and the value of key 0.
 #![tactic(auto)]
 
+use printing::Printer;
 use std::io;
 
 mod sheets;
 mod tests;
 
 fn main(rt: HostRuntime) -> io::Result<()> {
+    let rt = Printer::new(rt.stdout());
     tests::empty(&rt)?;
     tests::one(&rt)?;
     tests::formatted(&rt)?;

@@ -7,6 +7,7 @@ use items::{len, text_of};
 use layout::head::Head;
 use layout::list::Items;
 use layout::word::{Content, Item};
+use printing::Printer;
 use refusal::Refusal;
 use sheet::insert::{insert, insert_embed, insert_with_attributes};
 use sheet::range::{format, remove_range};
@@ -194,6 +195,7 @@ fn b12(rt: &impl Print, items: &mut [u64], units: &[u16]) -> io::Result<()> {
 }
 
 fn main(rt: HostRuntime) -> io::Result<()> {
+    let rt = Printer::new(rt.stdout());
     let mut items = [0u64; 2048];
     let mut units = [0u16; 16384];
     b2(&rt, &mut items, &mut units)?;

@@ -5,6 +5,7 @@ mod broken;
 mod print;
 
 use crate::print::{ask_bool, ask_int, ask_name, ask_string, name, value};
+use printing::Printer;
 use std::io;
 use table::TableHead;
 
@@ -117,6 +118,7 @@ fn full_values(rt: &impl Print, h: TableHead, t: &mut [u8; TableHead::BYTES]) ->
 }
 
 fn main(rt: HostRuntime) -> io::Result<()> {
+    let rt = Printer::new(rt.stdout());
     let mut t = [0u8; TableHead::BYTES];
     let a = name_lengths(&rt, TableHead::fresh(), &mut t)?;
     let b = fill_names(a, &mut t);

@@ -2,6 +2,7 @@
 // index split a pair. Then three lines over eight units: kinds, high ones, low ones.
 #![tactic(auto)]
 
+use printing::Printer;
 use std::fmt::Display;
 use std::io;
 use units::Kind;
@@ -42,6 +43,7 @@ fn limits(rt: &impl Print) -> io::Result<()> {
 }
 
 fn main(rt: HostRuntime) -> io::Result<()> {
+    let rt = Printer::new(rt.stdout());
     text(&rt, &[])?;
     text(&rt, &[0xD800])?;
     text(&rt, &[0xDC00])?;
