@@ -1,34 +1,19 @@
 // The length, runs, items and event of a sheet.
-ghost use Rattle.std.specs.Prelude.{IfSome};
-ghost use Rattle.cursors.specs.Cursors.{Ready};
-
 use crate::letters::Letters;
 use crate::say::{say_attrs, say_units};
 use crate::state::Sheet;
 use cursors::run::Run;
-use cursors::walk::Runs;
 use encoding::op_at;
 use events::event::event;
 use layout::list::Items;
 use layout::word::{Content, Item};
 use ops::delta::{DeltaOp, Inserted, Op};
 use ranges::text_of_range;
-use soundness::sound;
 use std::io;
 
 fn say_len(rt: &impl Print, sheet: &Sheet) -> io::Result<()> {
     let len = items::len(sheet.head, &sheet.items, &sheet.units).unwrap_or(0);
     println!(rt; "len {len}")
-}
-
-fn runs(sheet: &Sheet, joined: bool) -> Option<Runs<'_>>
-    ensures { IfSome result Ready }
-{
-    if sound(sheet.head, &sheet.items, &sheet.units) {
-        Some(Runs::new(sheet.head, &sheet.items, joined))
-    } else {
-        None
-    }
 }
 
 fn part(units: &[u16], start: u32, len: u32) -> &[u16] {
@@ -72,7 +57,7 @@ fn show_run(rt: &impl Print, sheet: &Sheet, run: Run) -> io::Result<()> {
 
 // What `p` asks for: the visible text in one line, as a person reads it.
 pub fn show(rt: &impl Print, sheet: &Sheet) -> io::Result<()> {
-    if let Some(all) = runs(sheet, true) {
+    if let Ok(all) = runs::calls::runs(sheet.head, &sheet.items, &sheet.units, true) {
         for run in all {
             show_run(rt, sheet, run)?;
         }
@@ -93,7 +78,7 @@ fn say_run(rt: &impl Print, sheet: &Sheet, run: Run) -> io::Result<()> {
 
 // One line a run, each behind `name`.
 fn say_runs(rt: &impl Print, sheet: &Sheet, joined: bool, name: &str) -> io::Result<()> {
-    if let Some(all) = runs(sheet, joined) {
+    if let Ok(all) = runs::calls::runs(sheet.head, &sheet.items, &sheet.units, joined) {
         for run in all {
             print!(rt; "{name}")?;
             say_run(rt, sheet, run)?;

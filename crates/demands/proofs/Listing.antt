@@ -18,9 +18,12 @@ use Rattle.rules.specs.Runs.{Chunk, words, object, Run as Stretch, runs, is_text
 use Rattle.laws.proofs.Lists.{map-append}
 use Rattle.laws.proofs.Cuts.{glyphs_in, in_cells, in-paint}
 use Rattle.laws.proofs.Runs.{run_cells, runs-cells, joined-cells, Maximal, none_left, one_left, apart, joined_maximal, apart_differ}
+use Rattle.std.specs.Prelude.{Ok}
 use Rattle.cursors.specs.declared.run.Run.{Run}
+use Rattle.cursors.specs.declared.walk.Runs.{Runs}
 use Rattle.cursors.specs.Records.{len_of, record_of, records_of, runs_by}
-use Rattle.runs.specs.Answers.{Count, records_in, answer, counted, Said, first, run_at}
+use Rattle.cursors.specs.Cursors.{left}
+use Rattle.runs.specs.Answers.{Count, records_in, answer, counted, Said, first, run_at, Begun}
 use Rattle.demands.specs.Steps.{State, sound, model}
 use Rattle.demands.specs.Written.{spelled, spelled_cell}
 use Rattle.demands.specs.Listing.{runs_read, all_runs, run_glyphs, runs_show, visible_of, Apart, Counted, Listed}
@@ -148,3 +151,7 @@ runs_listed s ok b = record {
   counts = subst Counted (sym (all_read s ok b)) (records-counted 0 (runs_by b (runs (model s).items)));
   apart = λ e. subst Apart (sym (all_read s ok b)) (by_apart b e (runs (model s).items) (joined_maximal (runs (model s).items)));
 }
+
+-- Whoever goes over the runs from the first on, as the program does, gets those that `run_at` hands out by number.
+pub runs_handed : (s : State) (b : Bool) (w : Runs) → Begun s.head s.words s.units b (Ok w) → left w ≡ all_runs s b
+runs_handed s b w g = g.2 ∙ sym (all_read s g.0 b)

@@ -8,7 +8,8 @@ use layout::head::Head;
 use refusal::Refusal;
 use soundness::sound;
 
-fn runs<'a>(h: Head, items: &'a [u64], units: &[u16], joined: bool) -> Result<Runs<'a>, Refusal>
+// The runs themselves, for whoever goes over all of them.
+pub fn runs<'a>(h: Head, items: &'a [u64], units: &[u16], joined: bool) -> Result<Runs<'a>, Refusal>
     ensures { Begun h items.now units.now joined result }
 {
     if !sound(h, items, units) {
