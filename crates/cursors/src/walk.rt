@@ -22,7 +22,7 @@ pub struct Spot {
 
 impl Spot {
     // In front of the first item.
-    fn start(h: Head) -> Spot
+    pub fn start(h: Head) -> Spot
         ensures { result ≡ start_of h }
     {
         Spot {
@@ -34,12 +34,13 @@ impl Spot {
     }
 }
 
-// The runs from a place on. `joined` merges neighbouring texts on which the same is in force.
-#[derive(Drop)]
+// The runs from a place on. `joined` merges neighbouring texts on which the same is in force. Whoever keeps `spot` can read on
+// there later.
+#[derive(Clone, Copy)]
 pub struct Runs<'a> {
-    items: &'a [u64],
-    joined: bool,
-    spot: Spot,
+    pub items: &'a [u64],
+    pub joined: bool,
+    pub spot: Spot,
 }
 
 impl<'a> Runs<'a> {
