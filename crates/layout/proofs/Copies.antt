@@ -5,14 +5,14 @@ use mathlib.Core.Path.{◌≡◌, refl, sym, ap, ◌∙◌}
 use mathlib.Core.Bool.{Bool, true, false}
 use mathlib.Core.List.{List, ◌++◌}
 use lib.ListN.{length, get_or, take, drop, length-append, length-drop, get_or-append}
-use lib.Seq.{get_or-take, get_or-drop, get_or-append-add, length-take-le, ext_get_or}
+use lib.Seq.{get_or-take, get_or-drop, get_or-append-add, length-take-le, ext_get_or, drop-append-add, drop-drop}
 use lib.Dec.{ltb}
 use borrow.Author.Tests.{ltb-true, ltb-false}
 use Rattle.rules.specs.Sheet.{Item}
 use Rattle.layout.specs.Word.{in_range}
 use Rattle.layout.specs.Chain.{END, chain, walks}
-use Rattle.layout.specs.Memory.{each_ok, stored}
-use Rattle.layout.proofs.Links.{distinct, length-chain}
+use Rattle.layout.specs.Memory.{each_ok, stored, stored_units}
+use Rattle.layout.proofs.Links.{Off, distinct, length-chain}
 use Rattle.layout.proofs.Numbers.{Once, below_yes, below_no, none_off, once, walk-below}
 use Rattle.layout.proofs.Stored.{length-stored, stored_off, stored_on, stored_same}
 
@@ -50,3 +50,28 @@ walk-once b m s few p = once b (chain b m s) (distinct b m few b s p) (walk-belo
 
 pub copy-chain : (b : ℕ) (m m' : List ℕ) (s : ℕ) → b ≤ END → b ≤ length m → b ≤ length m' → walks b b m' s ≡ true → each_ok in_range b m' s ≡ true → take b m' ++ drop b m ≡ stored (chain b m' s) m
 copy-chain b m m' s few room room' p e = copy-back (chain b m' s) b m m' room room' (walk-once b m' s few p) (stored_same b b m' s few p e)
+
+-- ---- stored twice
+-- What a longer list is stored over does not count.
+pub stored_again : (l l' : List Item) (n n' : ℕ) (m : List ℕ) → n ≤ n' → n' ≤ length m → Once l n → Once l' n' → stored l' (stored l m) ≡ stored l' m
+stored_again l l' n n' m h room o o' = ext_get_or 0 (stored l' (stored l m)) (stored l' m) (long ∙ sym (length-stored l' m)) (λ i k. at i (ltb i n') refl)
+  where
+    long : length (stored l' (stored l m)) ≡ length m
+    long = length-stored l' (stored l m) ∙ length-stored l m
+
+    at : (i : ℕ) (t : Bool) → ltb i n' ≡ t → get_or (stored l' (stored l m)) i 0 ≡ get_or (stored l' m) i 0
+    at i true q =
+        let k = ltb-true i n' q in
+        stored_on l' (stored l m) m i (omega (arith, length-stored l m)) (omega arith) (omega (arith, o' i, below_yes i n' k))
+    at i false q =
+        let k = ltb-false i n' q in
+        let off : Off i l' = none_off i l' (o' i ∙ below_no i n' k) in
+        stored_off l' (stored l m) i off ∙ stored_off l m i (none_off i l (o i ∙ below_no i n (omega arith))) ∙ sym (stored_off l' m i off)
+
+pub units_again : (us us' u : List ℕ) → length us ≤ length us' → stored_units us' (stored_units us u) ≡ stored_units us' u
+units_again us us' u h =
+    let k = length us' - length us in
+    let e : length us + k ≡ length us' = omega arith in
+    ap (λ (x : List ℕ). us' ++ x) (
+    ap (λ (n : ℕ). drop n (us ++ drop (length us) u)) (sym e) ∙ drop-append-add us (drop (length us) u) k ∙ drop-drop k (length us) u ∙ ap (λ (n : ℕ). drop n u) e
+    )
