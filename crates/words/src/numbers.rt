@@ -12,7 +12,7 @@ pub enum Piece {
 }
 
 // A whole word as a number below 2 to the 32nd, its digits below `base`. A digit is told in base 16 first, since `to_digit` takes no base of 1.
-pub fn read_number(w: &[u8], base: u32) -> Option<u32>
+pub fn read_number(w: &[u8], base: u64) -> Option<u32>
     requires base_nonzero { 0 < base }
     requires base_bound { base ≤ 16 }
     ensures { result ≡ number_of base w.now }
@@ -23,10 +23,10 @@ pub fn read_number(w: &[u8], base: u32) -> Option<u32>
     let mut value: u32 = 0;
     for b in w {
         let d = char::from(*b).to_digit(16)?;
-        if d >= base {
+        if u64::from(d) >= base {
             return None;
         }
-        value = value.checked_mul(base)?.checked_add(d)?;
+        value = value.checked_mul(base as u32)?.checked_add(d)?;
     }
     Some(value)
 }
