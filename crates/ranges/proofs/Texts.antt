@@ -20,7 +20,7 @@ use Rattle.layout.specs.Word.{what_of}
 use Rattle.layout.specs.Chain.{chain, item_at, next_at}
 use Rattle.layout.proofs.Links.{walks-lt, walks_next, chain-step}
 use Rattle.layout.specs.Word.{shown_len}
-use Rattle.ranges.specs.Texts.{unit_in, showing, LiesIn, Reads}
+use Rattle.ranges.specs.Texts.{unit_in, units_from, showing, left_from, LiesIn, Shows, Reads}
 
 -- ---- one item
 
@@ -56,6 +56,10 @@ pub width_of : (d : Bool) (w : What) (k : ℕ) → k < shown_len d w → k < wid
 width_of true w k l = absurd (omega arith)
 width_of false w k l = l
 
+shown-within : (d : Bool) (w : What) → shown_len d w ≤ width w
+shown-within true w = omega arith
+shown-within false w = omega arith
+
 lies_in : (used long : ℕ) (w : What) → used ≤ long → Fits used w → LiesIn long w
 lies_in used long (text s n) l f = omega (arith, f.1)
 lies_in used long (embed x) l f = tt
@@ -77,6 +81,9 @@ module _ (m u : List ℕ) (at todo : ℕ) where
 
     pub reads-lies : Reads m u at todo → LiesIn (length u) (item_at m at).what
     reads-lies r = lies_in r.used (length u) (item_at m at).what r.room (fit-here r).1
+
+    pub reads-shows : Reads m u at todo → Shows (length u) (item_at m at).what (shown_len (item_at m at).flags.dead (item_at m at).what)
+    reads-shows r = (reads-lies r, shown-within (item_at m at).flags.dead (item_at m at).what)
 
     pub reads-next : Reads m u at todo → Reads m u (next_at m at) (todo - 1)
     reads-next r = record { used = r.used; walk = walks_next (length m) todo m at some r.walk; fit = (fit-here r).2; room = r.room }
@@ -113,6 +120,48 @@ module _ (m u : List ℕ) (at todo : ℕ) where
           ∙ shown-at u (item_at m at).flags.dead (item_at m at).what off l in
           drop-cons (visible_units u (chain todo m at)) off 0 v
           ∙ ap₂ (λ (x k : ℕ). x ∷ drop k (visible_units u (chain todo m at))) first (sym (add-one off))
+
+    -- what the item shows, and then what the next ones show
+    shows-rest : (n off : ℕ) → n ≡ shown_len (item_at m at).flags.dead (item_at m at).what - off
+        → showing m u at todo off ≡ units_from u (item_at m at).what off n ++ showing m u (next_at m at) (todo - 1) (off - shown_len (item_at m at).flags.dead (item_at m at).what)
+    unfolding units_from
+    shows-rest zero off e = shows-pass off (omega (arith, e))
+    shows-rest (suc n) off e =
+        let w = shown_len (item_at m at).flags.dead (item_at m at).what in
+        let same : off + 1 - w ≡ off - w = omega (arith, e) in
+        shows-here off (omega (arith, e))
+        ∙ ap (λ (l : List ℕ). unit_in u (item_at m at).what off ∷ l)
+        (shows-rest n (off + 1) (omega (arith, e))
+        ∙ ap (λ (k : ℕ). units_from u (item_at m at).what (off + 1) n ++ showing m u (next_at m at) (todo - 1) k) same)
+
+-- ---- what is left with an item that is unpacked
+
+module _ (m u : List ℕ) (w : What) (wide at todo off : ℕ) where
+  pub left-here : off < wide → left_from m u w wide at todo off ≡ unit_in u w off ∷ left_from m u w wide at todo (off + 1)
+  unfolding units_from
+  left-here l =
+      let more : wide - off ≡ suc (wide - (off + 1)) = omega arith in
+      let past : off - wide ≡ off + 1 - wide = omega arith in
+      ap₂ (λ (n k : ℕ). units_from u w off n ++ showing m u at todo k) more past
+
+  module _ (l : wide ≤ off) where
+    pub left-past : left_from m u w wide at todo off ≡ showing m u at todo (off - wide)
+    unfolding units_from
+    left-past =
+        let none : wide - off ≡ 0 = omega arith in
+        ap (λ (n : ℕ). units_from u w off n ++ showing m u at todo (off - wide)) none
+
+    pub left-none : todo ≡ 0 → left_from m u w wide at todo off ≡ []
+    left-none e = left-past ∙ shows-none m u at todo (off - wide) e
+
+    pub left-next : 0 < todo
+        → left_from m u w wide at todo off
+        ≡ left_from m u (item_at m at).what (shown_len (item_at m at).flags.dead (item_at m at).what) (next_at m at) (todo - 1) (off - wide)
+    left-next some = left-past ∙ shows-rest m u at todo some _ (off - wide) refl
+
+-- before the first item nothing is unpacked
+pub left-first : (m u : List ℕ) (w : What) (at todo off : ℕ) → left_from m u w 0 at todo off ≡ showing m u at todo off
+left-first m u w at todo off = left-past m u w 0 at todo off (omega arith) ∙ ap (showing m u at todo) (omega arith)
 
 -- a unit of a text lies in the units
 pub in-piece : (c : Content) (s n k long : ℕ) → c ≡ Text s n → LiesIn long (what_of c) → k < width (what_of c) → s + k < long

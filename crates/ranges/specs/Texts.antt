@@ -1,9 +1,10 @@
 -- The visible units of a range.
-use Rattle.std.specs.Prelude.{ℕ, ◌+◌, ◌≤◌, ◌≡◌, true, cond, List, leb, length, get_or, take, drop}
-use Rattle.rules.specs.Sheet.{What, text, embed, mark}
+use Rattle.std.specs.Prelude.{ℕ, zero, suc, ◌+◌, ◌-◌, ◌≤◌, ◌≡◌, true, cond, List, [], ◌∷◌, ◌++◌, leb, length, get_or, take, drop}
+use Rattle.rules.specs.Sheet.{What, text, embed, mark, width}
 use Rattle.rules.specs.Sound.{AllFit}
 use Rattle.rules.specs.Calls.{visible_units, bad_range}
 use Rattle.layout.specs.declared.head.Head.{Head}
+use Rattle.layout.specs.Word.{what_of}
 use Rattle.layout.specs.Chain.{chain, walks}
 use Rattle.layout.specs.Memory.{list_of, sound_of}
 use Rattle.ranges.specs.declared.Seen.{Seen}
@@ -41,14 +42,28 @@ unit_in u (mark j v) k = 0
 unfoldable pub showing : List ℕ → List ℕ → ℕ → ℕ → ℕ → List ℕ
 showing m u at todo off = drop off (visible_units u (chain todo m at))
 
+-- n units of an item from unit k on.
+unfoldable pub units_from : List ℕ → What → ℕ → ℕ → List ℕ
+units_from u w k zero = []
+units_from u w k (suc n) = unit_in u w k ∷ units_from u w (k + 1) n
+
+-- What is left of the first `wide` units of an item, and then from the next item on, `todo` items with it; so many units in all are
+-- passed over.
+abbrev pub left_from : List ℕ → List ℕ → What → ℕ → ℕ → ℕ → ℕ → List ℕ
+left_from m u w wide at todo off = units_from u w off (wide - off) ++ showing m u at todo (off - wide)
+
 abbrev pub left : Seen → List ℕ
-left s = showing s.items.now s.units.now s.at s.todo s.off
+left s = left_from s.items.now s.units.now (what_of s.content) s.width s.at s.todo s.off
 
 -- A text lies in so many units.
 abbrev pub LiesIn : ℕ → What → Type 0
 LiesIn long (text s n) = s + n ≤ long
 LiesIn long (embed x) = Unit {0}
 LiesIn long (mark k v) = Unit {0}
+
+-- An item's first `wide` units can be read.
+abbrev pub Shows : ℕ → What → ℕ → Type 0
+Shows long w wide = LiesIn long w × (wide ≤ width w)
 
 -- The links go on to the end, and the texts lie in the units.
 pub record Reads (m u : List ℕ) (at todo : ℕ) : Type 0 where

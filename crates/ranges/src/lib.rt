@@ -6,28 +6,30 @@ ghost use Rattle.std.specs.Iterator.{YieldsFirst, item_count};
 ghost use Rattle.layout.specs.Word.{what_of};
 ghost use Rattle.rules.specs.Sheet.{width as width_of};
 ghost use Rattle.runs.specs.Answers.{told};
-ghost use Rattle.ranges.specs.Texts.{unit_in, left, text_answer, Reads, LiesIn, Copied};
+ghost use Rattle.ranges.specs.Texts.{unit_in, left, text_answer, Reads, LiesIn, Shows, Copied};
 
 use layout::head::Head;
 use layout::word::{Content, shown_len, unpack};
 use refusal::Refusal;
 use refusals::range_fault;
 
-// The visible units from a place on, an embed as a unit 0: the next item, how many are left with it, and how many visible units
-// from there on are passed over.
+// The visible units from a place on, an embed as a unit 0: an item's content, unpacked once for all its units, how many of them are
+// visible, and how many visible units from its first on are passed over; then the next item, and how many are left with it.
 #[derive(Drop)]
 struct Seen<'a> {
     items: &'a [u64],
     units: &'a [u16],
+    content: Content,
+    width: u64,
+    off: u64,
     at: u32,
     todo: u32,
-    off: u64,
 }
 
 impl<'a> Iterator for Seen<'a> {
     type Item = u16;
 
-    ghost can_next = { λ s. Reads s.items.now s.units.now s.at s.todo };
+    ghost can_next = { λ s. Reads s.items.now s.units.now s.at s.todo × Shows (length s.units.now) (what_of s.content) s.width };
 
     ghost next_gives = { YieldsFirst left };
 
@@ -35,19 +37,20 @@ impl<'a> Iterator for Seen<'a> {
 
     // The count of the items that are left is the iterator's own, for the call after this one.
     fn next(&mut self) -> Option<u16> {
-        while self.todo > 0 {
-            let it = unpack(self.items[self.at as usize]);
-            let w = u64::from(shown_len(it));
-            if self.off < w {
-                let unit = unit_in(self.units, it.content, self.off);
-                self.off += 1;
-                return Some(unit);
+        while self.off >= self.width {
+            if self.todo == 0 {
+                return None;
             }
-            self.off -= w;
+            let it = unpack(self.items[self.at as usize]);
+            self.off -= self.width;
+            self.content = it.content;
+            self.width = u64::from(shown_len(it));
             self.at = it.next;
             self.todo -= 1;
         }
-        None
+        let unit = unit_in(self.units, self.content, self.off);
+        self.off += 1;
+        Some(unit)
     }
 }
 
@@ -98,9 +101,11 @@ pub fn text_of_range(
     let seen = Seen {
         items,
         units,
+        content: Content::Mark { key: 0, value: 0 },
+        width: 0,
+        off: u64::from(index),
         at: h.first,
         todo: h.items,
-        off: u64::from(index),
     };
     for (i, unit) in seen.take(count).enumerate() {
         out[i] = unit;

@@ -3,6 +3,7 @@ use Rattle.std.proofs.Common.{◌≡◌, ◌<◌, ◌≤◌, ◌∷◌, ◌∙�
 use Rattle.std.specs.Iterator.Adapters.{enumerate_source, enumerate_count, take_source}
 use Rattle.ranges.specs.Texts.{showing, left}
 use Rattle.runs.proofs.Fronts.{drop-some, drop-next, written-more}
+use Rattle.ranges.proofs.Texts.{left-first}
 use Rattle.ranges.proofs.Ranges.{reads-start, text-within, front-text, plan-grants, all-taken}
 use Rattle.ranges.proofs.text_of_range.Goals as goal
 use Rattle.ranges.proofs.text_of_range.Goals.{In-Some}
@@ -16,10 +17,10 @@ loop-i-init c =
     let take = c.take.ensures in
     rw (c.into_iter-i-iterator.ensures.into_iter_gives, from.source, from.count, take.source, take.count, c.from.ensures)
     (record {
-      can = (reads-start a.h a.items.now a.units.now ok, tt, inl (omega (arith, fits)));
+      can = ((reads-start a.h a.items.now a.units.now ok, (tt, omega arith)), tt, inl (omega (arith, fits)));
       finite = tt;
       within = omega arith;
-      left = refl;
+      left = left-first _ _ _ _ _ _;
       out = refl;
     })
 
