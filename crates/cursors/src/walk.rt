@@ -74,8 +74,8 @@ impl<'a> Iterator for Runs<'a> {
         ensures stays { Stays self.old self.new }
     {
         let from = skip(self.items, self.spot);
-        self.spot = from;
         if from.todo == 0 {
+            self.spot = from;
             return None;
         }
         let it = unpack(self.items[from.at as usize]);

@@ -24,7 +24,7 @@ fn write_runs(
     ensures words { ops.new ≡ at_front (runs_words (take (told result).count (records_in h items.now joined))) ops.old }
 {
     let count = plan(h, items, units, joined, ops.len() / WORDS)?;
-    for (i, run) in Runs::new(h, items, joined).enumerate() {
+    for (i, run) in Runs::new(h, items, joined).take(count).enumerate() {
         write_op(ops, i as u32, run_op(run));
     }
     Ok(count)

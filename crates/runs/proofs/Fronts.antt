@@ -1,8 +1,8 @@
 -- One list over the front of another, element by element. Assumes nothing.
-use Prim.Native.Nat.{ℕ, suc, ◌+◌, ◌<◌, ◌≤◌}
+use Prim.Native.Nat.{ℕ, zero, suc, ◌+◌, ◌<◌, ◌≤◌}
 use native.Mathlib.Numerals.{add-one}
 use native.Mathlib.Omega.{arith}
-use mathlib.Core.Path.{◌≡◌, sym, ap, ◌∙◌}
+use mathlib.Core.Path.{◌≡◌, refl, sym, ap, ◌∙◌}
 use mathlib.Core.List.{List, [], ◌∷◌, ◌++◌, append_assoc}
 use lib.ListN.{length, take, drop, set, get_or, length-drop}
 use lib.Seq.{drop-cons, drop-drop, take-suc, length-take-le, set_at}
@@ -16,6 +16,17 @@ module _ {A : Type 0} where
   -- .. and a list with nothing left there ends before it
   pub drop-none : (rs : List A) (n : ℕ) → drop n rs ≡ [] → length rs ≤ n
   drop-none rs n e = omega (arith, ap length e, length-drop n rs)
+
+  -- a walk over a list that takes k of it, and has come to place i, ends there at the last of the k
+  pub all-taken : (i t k : ℕ) (rs : List A) → i + t ≡ k → k ≤ length rs → (0 < t → drop i rs ≡ []) → k ≡ i
+  all-taken i zero k rs w l f = omega arith
+  all-taken i (suc t) k rs w l f = omega (arith, drop-none rs i (f (omega arith)))
+
+  -- .. and where as many are left of the list as of the k, none is left
+  pub none-left : (i t k : ℕ) (rs : List A) → i + t ≡ k → i + length rs ≡ k → (0 < t → rs ≡ []) → rs ≡ []
+  none-left i zero k [] w l f = refl
+  none-left i zero k (x ∷ rs) w l f = absurd (omega arith)
+  none-left i (suc t) k rs w l f = f (omega arith)
 
   pub drop-next : (rs : List A) (n : ℕ) (x : A) (more : List A) → drop n rs ≡ x ∷ more → more ≡ drop (n + 1) rs
   drop-next rs n x more e = sym (ap (drop 1) e) ∙ drop-drop 1 n rs

@@ -20,7 +20,7 @@ pub fn fill_runs(
     ensures { Filled h items.now units.now joined out.old out.new (told result) }
 {
     let count = plan(h, items, units, joined, out.len())?;
-    for (i, run) in Runs::new(h, items, joined).enumerate() {
+    for (i, run) in Runs::new(h, items, joined).take(count).enumerate() {
         out[i] = run;
     }
     Ok(count)
