@@ -4,6 +4,8 @@
 ghost use Rattle.std.specs.Prelude.{◌≡◌, ◌∷◌, ◌+◌, ◌<◌, ◌≤◌, length, MatchOption};
 ghost use Rattle.entries.specs.Entry.{kind_at, content_at, entry_at, entries, same_bytes, seek, put_at};
 
+use copying::copy;
+
 pub const SLOT: usize = 34;
 
 // 16 slots for names and 255 for values.
@@ -57,5 +59,5 @@ pub fn put(table: &mut [u8; BYTES], slot: usize, kind: u8, bytes: &[u8])
     let at = slot * SLOT;
     table[at] = bytes.len() as u8;
     table[at + 1] = kind;
-    table[at + 2..at + 2 + bytes.len()].copy_from_slice(bytes);
+    copy(&mut table[at + 2..at + 2 + bytes.len()], bytes);
 }

@@ -8,6 +8,7 @@ ghost use Rattle.events.specs.Told.{units_for};
 ghost use Rattle.events.specs.Walks.{Walkable, new_glyphs, given_by};
 
 use assembling::runs::{Sight, seen_by};
+use copying::copy;
 use layout::head::Head;
 use layout::word::{Content, unpack};
 
@@ -37,7 +38,7 @@ pub(crate) fn fill(h: Head, items: &[u64], units: &[u16], back: bool, out: &mut 
     for _ in 0..h.items {
         let it = unpack(items[at as usize]);
         let text = new_text(units, seen_by(it, back), it.content);
-        out[n..n + text.len()].copy_from_slice(text);
+        copy(&mut out[n..n + text.len()], text);
         n += text.len();
         at = it.next;
     }

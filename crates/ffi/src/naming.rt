@@ -9,6 +9,7 @@ ghost use Rattle.ffi.specs.Heads.{table_head_of, asked_in};
 ghost use Rattle.ffi.specs.Answers.{count_in, kind_in, number_in, ShownIn};
 
 use crate::heads::{settled, table_head_of, table_words_of};
+use copying::copy;
 use lookup::Shown;
 use refusal::Refusal;
 use table::{Asked, TableHead};
@@ -99,7 +100,7 @@ fn show(bytes: &[u8], out: &mut [u8]) -> Result<usize, Refusal>
     if count > out.len() {
         return Err(Refusal::Out);
     }
-    out[..count].copy_from_slice(bytes);
+    copy(&mut out[..count], bytes);
     Ok(count)
 }
 

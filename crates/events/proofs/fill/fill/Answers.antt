@@ -21,8 +21,8 @@ bounds-items-at c =
 pub new_text-text-requires : goal.new_text-text-requires
 new_text-text-requires c = rw c.unpack-it.ensures (text-fits _ _ _ _ _ _ _ _ _ _ c.loop.invariant (omega arith))
 
-pub slice_bounds-copy_from_slice-end : goal.slice_bounds-copy_from_slice-end
-slice_bounds-copy_from_slice-end c =
+pub slice_bounds-copy-end : goal.slice_bounds-copy-end
+slice_bounds-copy-end c =
     let text = rw (c.seen_by.ensures, c.unpack-it.ensures) at c.new_text-text.ensures in
     text-here _ _ _ _ _ _ _ _ _ _ c.loop.invariant (omega arith) _ text
 
@@ -33,7 +33,7 @@ loop-preserved c =
     let t = c.new_text-text.result.now in
     let room : n + length t ≤ length c.loop.out = text-here _ _ _ _ _ _ _ _ _ _ c.loop.invariant (omega arith) _ text in
     let left : c.args.h.items - (c.loop.counter + 1) ≡ c.args.h.items - c.loop.counter - 1 = omega arith in
-    let stored = copied n (n + length t - n) c.loop.out _ t c.copy_from_slice.ensures.after (omega arith) room in
+    let stored = copied n (n + length t - n) c.loop.out _ t c.copy.ensures (omega arith) room in
     rw (left, c.unpack-it.ensures) (filling_step _ _ _ _ _ _ _ _ _ _ c.loop.invariant (omega arith) _ _ text stored)
 
 pub returns : goal.returns
