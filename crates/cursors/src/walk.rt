@@ -79,16 +79,15 @@ impl<'a> Iterator for Runs<'a> {
             return None;
         }
         let it = unpack(self.items[from.at as usize]);
-        let on = past(from, it);
         if let Content::Embed(number) = it.content {
-            self.spot = on;
+            self.spot = past(from, it);
             return Some(Run {
                 embed: true,
                 number,
                 ..text_run(from.passed, 1, from.force)
             });
         }
-        let end = gather(self.items, self.joined, on);
+        let end = gather(self.items, self.joined, past(from, it));
         self.spot = end;
         Some(text_run(from.passed, end.passed - from.passed, from.force))
     }
