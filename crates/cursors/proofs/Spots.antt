@@ -224,6 +224,14 @@ module _ (j : Bool) (m : List ℕ) (c s : Spot) (sk : Skipped m c s) where
     pub next-embed : (x : ℕ) → (here m s).what ≡ embed x → records_at j m c ≡ embed_record s.passed x s.force ∷ records_at j m (next m s)
     next-embed x is = sk.same j ∙ embed-here j m s sk.stands h awake x is
 
+    -- a live embed is one unit, and what is in force stays
+    pub embed-sum : (x : ℕ) → (here m s).what ≡ embed x → s.passed + 1 < 4294967296
+    embed-sum x is = omega (arith, (steps m s sk.stands h).sum, ap₂ shown_len awake is)
+
+    pub behind-embed : (x : ℕ) → (here m s).what ≡ embed x → record { at = next_at m s.at; todo = s.todo - 1; passed = s.passed + 1; force = s.force } ≡ next m s
+    unfolding mark_on
+    behind-embed x is = sym (next-live m s (embed x) awake is)
+
     pub next-text : (it : Entry) → it ≡ unpack_of (get_or m s.at 0) → ((x : ℕ) → it.content ≡ Embed x → ⊥) → (r : Spot) → Gathered j m (next m s) r
         → records_at j m c ≡ text_record s.passed (r.passed - s.passed) s.force ∷ records_at j m r
     next-text it e k r g =

@@ -80,7 +80,12 @@ impl<'a> Iterator for Runs<'a> {
         }
         let it = unpack(self.items[from.at as usize]);
         if let Content::Embed(number) = it.content {
-            self.spot = past(from, it);
+            self.spot = Spot {
+                at: it.next,
+                todo: from.todo - 1,
+                passed: from.passed + 1,
+                force: from.force,
+            };
             return Some(Run {
                 embed: true,
                 number,
