@@ -1,16 +1,18 @@
 -- One step along the slots, the comparison of two contents, and a new entry as writes. Assumes nothing.
-use Prim.Native.Nat.{ℕ, zero, suc, ◌+◌, ◌-◌, ◌*◌, ◌<◌, ◌≤◌}
+use Prim.Native.Nat.{ℕ, zero, suc, ◌+◌, ◌-◌, ◌*◌, ◌<◌, ◌≤◌, min}
 use native.Mathlib.Numerals.{add-one}
 use native.Mathlib.Omega.{arith}
 use mathlib.Core.Path.{◌≡◌, refl, sym, ap, ◌∙◌}
 use mathlib.Core.Bool.{Bool, true, false, cond, ◌&&◌}
 use Rattle.std.specs.Str.{bytes_eq}
 use mathlib.Core.List.{List, [], ◌∷◌, ◌++◌, append_assoc}
-use lib.ListN.{length, take, set, length-set}
+use lib.ListN.{length, get_or, take, drop, set, length-set}
+use Rattle.std.proofs.Math.Seq.{drop-cons}
+use Rattle.std.proofs.lemmas.Bool.{ne_eqb}
 use lib.Seq.{sets-eq, drop-drop}
 use borrow.Rule.Slice.PartMut.{put_mid}
 use lib.Dec.{eqb}
-use Rattle.entries.specs.Entry.{entry_at, entries, same_bytes, seek, among, put_at}
+use Rattle.entries.specs.Entry.{length_at, content_at, entry_at, entries, same_bytes, seek, among, put_at}
 use Rattle.entries.specs.Order.{fits_at, all_fit, distinct}
 
 -- ---- the slots that are left after i of n
@@ -72,6 +74,21 @@ same_is (x ∷ a) (y ∷ b) = go (eqb x y) (same_is a b)
     go : (t : Bool) → same_bytes a b ≡ bytes_eq a b → cond t (same_bytes a b) false ≡ (t && bytes_eq a b)
     go true e = e
     go false e = refl
+
+-- a content that starts with another byte is another: where a slot has none, it is shorter
+pub other_start : (m : List ℕ) (s : ℕ) (bytes : List ℕ) → s * 34 + 2 < length m → 0 < length bytes → (get_or m (s * 34 + 2) 0 ≡ get_or bytes 0 0 → ⊥)
+    → same_bytes (content_at m s) bytes ≡ false
+unfolding same_bytes content_at
+other_start m s [] within some other = absurd (omega arith)
+other_start m s (b ∷ bytes) within some other =
+    rw drop_from (go (min (length_at m s) 32))
+  where
+    drop_from : drop (s * 34 + 2) m ≡ get_or m (s * 34 + 2) 0 ∷ drop (suc (s * 34 + 2)) m
+    drop_from = drop-cons m (s * 34 + 2) 0 within
+
+    go : (n : ℕ) → same_bytes (take n (get_or m (s * 34 + 2) 0 ∷ drop (suc (s * 34 + 2)) m)) (b ∷ bytes) ≡ false
+    go zero = refl
+    go (suc n) = rw (ne_eqb (get_or m (s * 34 + 2) 0) b other)
 
 pub length-entries : (m : List ℕ) (s n : ℕ) → length (entries m s n) ≡ n
 unfolding entries
