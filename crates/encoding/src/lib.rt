@@ -7,6 +7,7 @@ ghost use Rattle.std.proofs.lemmas.List.Edits.{sets};
 ghost use Rattle.encoding.specs.Words.{bytes_of, four, meant_by, found_from, found_at, kind_of, first_of, second_of, words_of};
 
 use attrs::Attrs;
+use copying::copy;
 use ops::delta::{DeltaOp, Inserted, Op};
 
 pub const WORDS: usize = 8;
@@ -103,5 +104,5 @@ pub fn write_op(words: &mut [u32], i: u32, d: DeltaOp)
         quad(v, 8),
         quad(v, 12),
     ];
-    words[at..at + WORDS].copy_from_slice(&written);
+    copy(&mut words[at..at + WORDS], &written);
 }
