@@ -44,7 +44,10 @@ fn content_ok(kind: u64, payload: u64, texts: Texts) -> bool
     if kind == 0 {
         return piece_ok((payload % 16384) as u32, (payload / 16384) as u32, texts);
     }
-    kind == 1 || payload / 16 < 256
+    if kind == 1 {
+        return true;
+    }
+    payload / 16 < 256
 }
 
 fn word_ok(w: u64, texts: Texts) -> bool

@@ -1,7 +1,5 @@
--- `soundness::content_ok` meets its contract: a text's piece; any embed; a mark whose value is small, since four bits hold no key too large.
--- Assumes nothing.
+-- `soundness::content_ok` meets its contract. Assumes nothing.
 use mathlib.Core.Path.{sym, ap, ◌∙◌}
-use borrow.Author.Tests.{eq-eqb}
 use Rattle.layout.specs.Memory.{what_ok}
 use Rattle.soundness.proofs.Payloads.{as-text, as-embed, mark-ok}
 use Rattle.soundness.proofs.content_ok.Goals as goal
@@ -11,7 +9,7 @@ returns-then-kind-eq0 c = c.piece_ok.ensures ∙ ap (what_ok _ _) (sym (as-text 
 
 pub returns-then-kind-eq1 : goal.returns-then-kind-eq1
 unfolding what_ok
-returns-then-kind-eq1 c = eq-eqb _ 1 c.if-kind-eq1.true ∙ sym (ap (what_ok _ _) (as-embed _ _ c.if-kind-eq1.true))
+returns-then-kind-eq1 c = rw (as-embed _ _ c.if-kind-eq1.true)
 
-pub returns-else-kind-eq1 : goal.returns-else-kind-eq1
-returns-else-kind-eq1 c = mark-ok _ _ _ _ c.if-kind-eq0.false c.if-kind-eq1.false
+pub returns : goal.returns
+returns c = mark-ok _ _ _ _ c.if-kind-eq0.false c.if-kind-eq1.false
