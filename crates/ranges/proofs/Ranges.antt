@@ -26,7 +26,6 @@ use Rattle.layout.proofs.Soundness.{sound-parts}
 use Rattle.layout.proofs.Models.{model-sound, used-length}
 use Rattle.runs.specs.Answers.{Count, told, written, answer}
 use Rattle.ranges.specs.Texts.{visible_in, text_in, text_answer, showing, Reads}
-use Rattle.runs.proofs.Fronts.{drop-none}
 use Rattle.runs.proofs.Tallies.{start-stands}
 use Rattle.ranges.proofs.Texts.{shown_of, shown-cons}
 
@@ -164,8 +163,3 @@ front-text h m u i n k ys e =
     ∙ ap (λ (x : ℕ). take x (drop i (visible_in h m u))) e
     ∙ fit-take n (drop i (visible_in h m u))
     ∙ sym (take_all k (text_in h m u i n) (omega (arith, e))))
-
--- a walk over a list that takes k of it, and has come to place i, ends there at the last of the k
-pub all-taken : (i t k : ℕ) (xs : List ℕ) → i + t ≡ k → k ≤ length xs → (0 < t → drop i xs ≡ []) → k ≡ i
-all-taken i zero k xs w l f = omega arith
-all-taken i (suc t) k xs w l f = omega (arith, drop-none xs i (f (omega arith)))

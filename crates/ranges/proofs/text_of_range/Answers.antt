@@ -2,9 +2,9 @@
 use Rattle.std.proofs.Common.{◌≡◌, ◌<◌, ◌≤◌, ◌∷◌, ◌∙◌, length, drop, refl, sym, inl, arith}
 use Rattle.std.specs.Iterator.Adapters.{enumerate_source, enumerate_count, take_source}
 use Rattle.ranges.specs.Texts.{showing, left}
-use Rattle.runs.proofs.Fronts.{drop-some, drop-next, written-more}
+use Rattle.runs.proofs.Fronts.{drop-some, drop-next, written-more, all-taken}
 use Rattle.ranges.proofs.Texts.{left-first}
-use Rattle.ranges.proofs.Ranges.{reads-start, text-within, front-text, plan-grants, all-taken}
+use Rattle.ranges.proofs.Ranges.{reads-start, text-within, front-text, plan-grants}
 use Rattle.ranges.proofs.text_of_range.Goals as goal
 use Rattle.ranges.proofs.text_of_range.Goals.{In-Some}
 
